@@ -1,0 +1,5 @@
+pub mod Poly
+pub mod Below
+pub mod Refusals
+pub mod Scan
+pub mod Bits
