@@ -1,8 +1,9 @@
 pub mod Cases
+pub mod Below
 pub mod Xor
-pub mod Laws
+pub mod Remainder
 pub mod Division
-pub mod Loop
+pub mod Linear
 pub mod Refusals
 pub mod Scan
 pub mod Bits

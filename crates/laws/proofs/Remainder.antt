@@ -1,12 +1,11 @@
 -- Laws of the remainder, for every g of degree d. Assumes nothing.
 use mathlib.Core.Path.{_≡_, refl, sym, ap, ap₂, _∙_, subst}
-use Prim.Native.Nat.{ℕ, zero, suc, _+_, _*_, _/_, _%_, _^_, _≤_, _<_}
-use native.Mathlib.Nat.{mod-lt, zero-lt-suc, zero-mul, one-mul, div-lt-iff-lt-mul, le-div-iff-mul-le, div-add-mod', pow-suc, mul-comm, mul-one, add-zero, add-suc, div-le-self, lt-of-le-of-lt, lt-of-lt-of-le, le-of-eq}
+use Prim.Native.Nat.{ℕ, zero, suc, _+_, _*_, _/_, _%_, _^_, _<_}
+use native.Mathlib.Nat.{mod-lt, zero-lt-suc, zero-mul, one-mul, div-lt-iff-lt-mul, div-add-mod', pow-suc, mul-comm, mul-one, add-zero, add-suc, div-le-self, lt-of-le-of-lt, le-of-eq}
 use native.Mathlib.Omega.{arith}
-use lib.Pow.{pow-pos, pow-mono, shr-shr}
+use lib.Pow.{pow-pos}
 use lib.Arith.{digits-lt, lt-one}
-use native.Mathlib.Numerals.{add-one}
-use lib.Bits.{bitXor, xor-comm, xor-shr, xor-mod, xor-block, xor-zero-r, xor-self, shifted-half, shifted-even}
+use lib.Bits.{bitXor, xor-shr, xor-mod, xor-block, xor-zero-r, xor-self, shifted-half, shifted-even}
 use Rattle.laws.specs.Poly.{reduce, remainder}
 use Rattle.laws.proofs.Xor.{bit-cases, xor-4, xor-eq}
 
@@ -17,6 +16,10 @@ scale g p q hp hq =
     (bit-cases (λ b. bitXor 1 b * g ≡ bitXor (1 * g) (b * g)) q hq
     (sym (ap (bitXor (1 * g)) (zero-mul g) ∙ xor-zero-r (1 * g)))
     (zero-mul g ∙ sym (xor-self (1 * g))))
+
+-- a polynomial of n + 1 coefficients without its last
+pub half : (p n : ℕ) → p < 2 ^ suc n → p / 2 < 2 ^ n
+half p n h = div-lt-iff-lt-mul (zero-lt-suc 1) .1 (subst (λ (x : ℕ). p < x) (pow-suc 2 n) h)
 
 -- x^d times the top coefficient, and the rest
 module _ (d g : ℕ) where
@@ -43,15 +46,6 @@ module _ (d g : ℕ) where
       div0 : (t : ℕ) → t < 2 ^ d → t / 2 ^ d ≡ 0
       div0 t h =
           let l : t / 2 ^ d < 1 = div-lt-iff-lt-mul (pow-pos d) .1 (subst (λ (x : ℕ). t < x) (sym (one-mul (2 ^ d))) h) in omega arith
-
-  -- from what has degree d, g is taken off
-  pub reduce-high : (t : ℕ) → 2 ^ d ≤ t → t < 2 ^ suc d → bitXor t g ≡ reduce d g t
-  unfolding reduce
-  reduce-high t l h =
-      let a : 1 ≤ t / 2 ^ d = le-div-iff-mul-le (pow-pos d) .1 (subst (λ (x : ℕ). x ≤ t) (sym (one-mul (2 ^ d))) l) in
-      let b : t / 2 ^ d < 2 = top t h in
-      let e : 1 ≡ t / 2 ^ d = omega arith in
-      xor-comm t g ∙ ap (λ (x : ℕ). bitXor x t) (sym (one-mul g) ∙ ap (λ (x : ℕ). x * g) e)
 
   -- g has degree d
   module _ (hg : g / 2 ^ d ≡ 1) where
@@ -89,28 +83,43 @@ module _ (d g : ℕ) where
         (down (remainder d g n (a / 2)) (a % 2) (remainder-lt n (a / 2)) (mod-lt a (zero-lt-suc 1)))
         (down (remainder d g n (b / 2)) (b % 2) (remainder-lt n (b / 2)) (mod-lt b (zero-lt-suc 1)))
 
-  -- a turn of a loop that brings the coefficient of x^k down
-  pub remainder-turn : (n k p : ℕ) → reduce d g (remainder d g n (p / 2 ^ (k + 1)) * 2 + p / 2 ^ k % 2) ≡ remainder d g (n + 1) (p / 2 ^ k)
-  unfolding remainder
-  remainder-turn n k p =
-      ap (λ (x : ℕ). reduce d g (remainder d g n x * 2 + p / 2 ^ k % 2)) (sym (shr-shr p k 1))
-      ∙ ap (λ (m : ℕ). remainder d g m (p / 2 ^ k)) (sym (add-one n))
-
   -- what is of lower degree than g is its own remainder
   pub remainder-low : (n p : ℕ) → p < 2 ^ d → p < 2 ^ n → remainder d g n p ≡ p
   unfolding remainder
   remainder-low zero p hd hp = sym (lt-one hp)
   remainder-low (suc n) p hd hp =
-      ap (λ (x : ℕ). reduce d g (x * 2 + p % 2)) (remainder-low n (p / 2) (lt-of-le-of-lt (div-le-self p 2) hd) (half-lt-pow n hp))
+      ap (λ (x : ℕ). reduce d g (x * 2 + p % 2)) (remainder-low n (p / 2) (lt-of-le-of-lt (div-le-self p 2) hd) (half p n hp))
       ∙ ap (reduce d g) (div-add-mod' p 2)
       ∙ reduce-low p hd
-    where
-      half-lt-pow : (k : ℕ) → p < 2 ^ suc k → p / 2 < 2 ^ k
-      half-lt-pow k h = div-lt-iff-lt-mul (zero-lt-suc 1) .1 (subst (λ (x : ℕ). p < x) (pow-suc 2 k) h)
 
-  -- times x: g, which is odd, divides r * x only where it divides r
+  -- zeros in front change nothing
+  pub leading-zeros : (k n p : ℕ) → p < 2 ^ n → remainder d g (k + n) p ≡ remainder d g n p
+  unfolding remainder
+  leading-zeros k zero p h = ap (remainder d g (k + 0)) (lt-one h) ∙ remainder-low (k + 0) 0 (pow-pos d) (pow-pos (k + 0))
+  leading-zeros k (suc n) p h =
+      ap (λ (m : ℕ). remainder d g m p) (add-suc k n)
+      ∙ ap (λ (x : ℕ). reduce d g (x * 2 + p % 2)) (leading-zeros k n (p / 2) (half p n h))
+
+  -- times x brings a zero down
+  times-x : (k n p : ℕ) → remainder d g (n + suc k) (p * 2 ^ suc k) ≡ reduce d g (remainder d g (n + k) (p * 2 ^ k) * 2 + 0)
+  unfolding remainder
+  times-x k n p =
+      ap (λ (m : ℕ). remainder d g m (p * 2 ^ suc k)) (add-suc n k)
+      ∙ ap₂ (λ (x y : ℕ). reduce d g (remainder d g (n + k) x * 2 + y)) (shifted-half p k) (shifted-even p k)
+
+  -- times x^k: a remainder may be taken before the shift or after it
+  pub shifting : g / 2 ^ d ≡ 1 → (k n p : ℕ) → remainder d g (n + k) (p * 2 ^ k) ≡ remainder d g (d + k) (remainder d g n p * 2 ^ k)
+  shifting hg zero n p =
+      ap₂ (remainder d g) (add-zero n) (mul-one p)
+      ∙ sym (ap₂ (remainder d g) (add-zero d) (mul-one (remainder d g n p)) ∙ remainder-low d (remainder d g n p) (remainder-lt hg n p) (remainder-lt hg n p))
+  shifting hg (suc k) n p =
+      times-x k n p
+      ∙ ap (λ (x : ℕ). reduce d g (x * 2 + 0)) (shifting hg k n p)
+      ∙ sym (times-x k d (remainder d g n p))
+
+  -- g, which is odd, divides p * x^k only where it divides p
   module _ (hg : g / 2 ^ d ≡ 1) (odd : g % 2 ≡ 1) where
-    pub reduce-shift : (r : ℕ) → r < 2 ^ d → reduce d g (r * 2 + 0) ≡ 0 → r ≡ 0
+    reduce-shift : (r : ℕ) → r < 2 ^ d → reduce d g (r * 2 + 0) ≡ 0 → r ≡ 0
     unfolding reduce
     reduce-shift r h e =
         bit-cases (λ p. p * g ≡ r * 2 + 0 → r ≡ 0) ((r * 2 + 0) / 2 ^ d) (top (r * 2 + 0) (down r 0 h (zero-lt-suc 1)))
@@ -118,12 +127,8 @@ module _ (d g : ℕ) where
         (λ q. let z : 1 * g ≡ g = one-mul g in omega arith)
         (xor-eq ((r * 2 + 0) / 2 ^ d * g) (r * 2 + 0) e)
 
-    -- times x^k
-    pub remainder-shift : (k m p : ℕ) → remainder d g (m + k) (p * 2 ^ k) ≡ 0 → remainder d g m p ≡ 0
-    unfolding remainder
-    remainder-shift zero m p e = sym (ap₂ (remainder d g) (add-zero m) (mul-one p)) ∙ e
-    remainder-shift (suc k) m p e =
-        remainder-shift k m p
-        (reduce-shift (remainder d g (m + k) (p * 2 ^ k)) (remainder-lt hg (m + k) (p * 2 ^ k))
-        (sym (ap₂ (λ (x y : ℕ). reduce d g (remainder d g (m + k) x * 2 + y)) (shifted-half p k) (shifted-even p k))
-        ∙ sym (ap (λ (n : ℕ). remainder d g n (p * 2 ^ suc k)) (add-suc m k)) ∙ e))
+    pub divides-shift : (k n p : ℕ) → remainder d g (n + k) (p * 2 ^ k) ≡ 0 → remainder d g n p ≡ 0
+    divides-shift zero n p e = sym (ap₂ (remainder d g) (add-zero n) (mul-one p)) ∙ e
+    divides-shift (suc k) n p e =
+        divides-shift k n p
+        (reduce-shift (remainder d g (n + k) (p * 2 ^ k)) (remainder-lt hg (n + k) (p * 2 ^ k)) (sym (times-x k n p) ∙ e))
