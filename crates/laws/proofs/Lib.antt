@@ -6,3 +6,5 @@ pub mod Loop
 pub mod Refusals
 pub mod Scan
 pub mod Bits
+pub mod Elements
+pub mod ByteFields
