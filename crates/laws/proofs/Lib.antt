@@ -7,3 +7,5 @@ pub mod Linear
 pub mod Refusals
 pub mod Scan
 pub mod Bits
+pub mod Elements
+pub mod ByteFields
