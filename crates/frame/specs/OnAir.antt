@@ -1,5 +1,5 @@
 -- A frame on air (paper 01, "Blocks"): its eight information bytes as four blocks of the letters A to D, 104 bits in 13 bytes.
-use mathlib.Core.List.{List, _++_}
+use mathlib.Core.List.{List, [], _∷_, _++_}
 use Prim.Native.Nat.{ℕ}
 use Rattle.laws.specs.Bits.{at, bitsOf, bits, bytes}
 use Rattle.block.specs.Block.{offsetOf, checkWord}
@@ -19,3 +19,8 @@ frameBits f =
 -- its bytes on air
 unfoldable pub airBytes : List ℕ → List ℕ
 airBytes f = bytes (frameBits f)
+
+-- the air bytes of frames, one after the other
+unfoldable pub streamOf : List (List ℕ) → List ℕ
+streamOf [] = []
+streamOf (f ∷ fs) = airBytes f ++ streamOf fs
