@@ -9,3 +9,4 @@ pub mod Scan
 pub mod Bits
 pub mod Elements
 pub mod ByteFields
+pub mod Words

@@ -1,0 +1,100 @@
+// The on-air writer: a packet as frames, each frame as 13 bytes on air.
+ghost use mathlib.Core.Path.{_≡_};
+ghost use mathlib.Core.List.{_++_};
+ghost use mathlib.Core.Bool.{not};
+ghost use Prim.Native.Nat.{ℕ, _+_, _*_, _<_, _≤_, _^_};
+ghost use lib.ListN.{length};
+ghost use lib.Seq.{sets};
+ghost use Rattle.block.specs.Block.{offsetOf, checkWord};
+ghost use Rattle.crc.specs.Crc16.{crc16};
+ghost use Rattle.frame.specs.Heading.{reserved};
+ghost use Rattle.frame.specs.OnAir.{airBytes, streamOf};
+ghost use Rattle.air.specs.Packed.{packed};
+ghost use Rattle.air.specs.OnAir.{framesFor, carried, frameOf, framesFrom, sized, airedOf, outputOf};
+use block::Letter;
+use frame::Heading;
+use frame::Number;
+use frame::Total;
+
+pub struct Aired {
+    pub answer: u8,
+    pub frames: usize,
+}
+
+// The least N with 4N no less than P + 2.
+fn frames_for(length: usize) -> usize
+    requires { ⌜ length ≤ 250 ⌝ }
+    ensures { λ r. ⌜ r ≡ framesFor length ⌝ }
+{
+    (length + 5) / 4
+}
+
+// Whether the packet has 2 to 250 bytes and says so itself.
+fn right_size(packet: &[u8]) -> bool
+    ensures { λ r. ⌜ r ≡ sized (now (packet .entry)) ⌝ }
+{
+    if packet.len() < 2 {
+        return false;
+    }
+    if packet.len() > 250 {
+        return false;
+    }
+    let stated = (packet[0] % 8) as usize * 256 + packet[1] as usize;
+    packet.len() == stated + 2
+}
+
+// Byte i of what the frames carry: the packet, its check, then fill.
+fn carried_byte(packet: &[u8], check: u16, i: usize) -> u8
+    requires { ⌜ (check ≡ crc16 (now packet)) × (length (now packet) ≤ 250) ⌝ }
+    ensures { λ r. ⌜ r ≡ carried (now (packet .entry)) i ⌝ }
+{
+    let p = packet.len();
+    if i < p {
+        return packet[i];
+    }
+    if i == p {
+        return (check / 256) as u8;
+    }
+    if i == p + 1 {
+        return (check % 256) as u8;
+    }
+    0xFF
+}
+
+// Two of those bytes as an information word.
+fn carried_word(packet: &[u8], check: u16, i: usize) -> u16
+    requires { ⌜ (check ≡ crc16 (now packet)) × (length (now packet) ≤ 250) × (i < 1000) ⌝ }
+    ensures { λ r. ⌜ r ≡ carried (now (packet .entry)) i * 256 + carried (now (packet .entry)) (i + 1) ⌝ }
+{
+    let high = carried_byte(packet, check, i);
+    let low = carried_byte(packet, check, i + 1);
+    (high as u16) * 256 + low as u16
+}
+
+// A block's 26 bits.
+fn block_of(word: u16, letter: Letter) -> u32
+    ensures { λ r. ⌜ r ≡ word * 2 ^ 10 + checkWord word (offsetOf letter) ⌝ }
+{
+    let check = block::check_word(word, block::offset_of(letter));
+    (word as u32) * 1024 + check as u32
+}
+
+// Writes four blocks of 26 bits, one behind the other, as 13 bytes.
+fn put_blocks(out: &mut [u8], a: u32, b: u32, c: u32, d: u32)
+    requires { ⌜ 13 ≤ length (now out) ⌝ }
+    ensures { λ _. ⌜ now (out .exit) ≡ sets (now (out .entry)) 0 (packed a b c d) ⌝ }
+{
+    out[0] = ((a >> 18) % 256) as u8;
+    out[1] = ((a >> 10) % 256) as u8;
+    out[2] = ((a >> 2) % 256) as u8;
+    out[3] = (a % 4 * 64 + (b >> 20) % 64) as u8;
+    out[4] = ((b >> 12) % 256) as u8;
+    out[5] = ((b >> 4) % 256) as u8;
+    out[6] = (b % 16 * 16 + (c >> 22) % 16) as u8;
+    out[7] = ((c >> 14) % 256) as u8;
+    out[8] = ((c >> 6) % 256) as u8;
+    out[9] = (c % 64 * 4 + (d >> 24) % 4) as u8;
+    out[10] = ((d >> 16) % 256) as u8;
+    out[11] = ((d >> 8) % 256) as u8;
+    out[12] = (d % 256) as u8;
+}
