@@ -6,3 +6,4 @@ pub mod Loop
 pub mod Refusals
 pub mod Scan
 pub mod Bits
+pub mod Writes
