@@ -10,3 +10,4 @@ pub mod Bits
 pub mod Elements
 pub mod ByteFields
 pub mod Words
+pub mod Writes
