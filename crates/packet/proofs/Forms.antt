@@ -1,8 +1,10 @@
 -- The kinds of the types that no single key names, and that a kind's type has that kind. Assumes nothing.
+use mathlib.Core.Bool.{Bool, true, false, not}
 use mathlib.Core.Path.{_≡_, refl, ap, _∙_, sym}
 use Prim.Native.Nat.{ℕ, _<_, _≤_}
 use native.Mathlib.Omega.{arith}
-use borrow.Author.Tests.{le-leb, lt-leb, ne-eqb}
+use borrow.Author.Tests.{le-leb, lt-leb, ne-eqb, ltb-true, ltb-false}
+use lib.Dec.{leb, ltb}
 use Rattle.packet.specs.declared.Form.{Form}
 use Rattle.packet.specs.declared.Form.the-variants.{Frequencies, Address, Keep, Clock, Reset, Factory, Drill, Text, Command, Hold, Raw, Unknown}
 use Rattle.packet.specs.Table.{formOf, typeOf}
@@ -62,3 +64,11 @@ form-type Unknown = refl
 
 pub same-form : (f g : Form) → typeOf f ≡ typeOf g → f ≡ g
 same-form f g e = sym (form-type f) ∙ ap formOf e ∙ form-type g
+
+-- below, or not at most
+pub below-not : (a b : ℕ) → ltb a b ≡ not (leb b a)
+below-not a b = go (ltb a b) refl
+  where
+    go : (t : Bool) → ltb a b ≡ t → ltb a b ≡ not (leb b a)
+    go true e = e ∙ sym (ap not (lt-leb b a (ltb-true a b e)))
+    go false e = e ∙ sym (ap not (le-leb b a (ltb-false a b e)))

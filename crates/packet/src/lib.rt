@@ -1,10 +1,12 @@
 // The packet of GY/T 390-2023, clause 6.1: what its fields are called, and its table of contents.
+mod days;
 mod rows;
 mod table;
 
 ghost use mathlib.Core.Path.{_≡_};
-ghost use Rattle.packet.specs.Table.{formOf, typeOf, rowOf};
-ghost use Rattle.packet.specs.Shape.{Shaped};
+ghost use Rattle.packet.specs.Table.{formOf, typeOf, rowOf, code, ending};
+ghost use Rattle.packet.specs.Shape.{Listed, Shaped};
+ghost use Rattle.packet.specs.Content.{noSuchDay};
 use format::Line;
 
 // The kinds of content (000, tables 3 to 6 and 13 to 18); Raw is carried unopened, Unknown refused.
@@ -153,6 +155,23 @@ pub fn type_of(f: Form) -> u8
     }
 }
 
+// A resource code, and what follows the content.
+pub fn code_lines() -> Lines
+    ensures { λ r. ⌜ Listed r code ⌝ }
+{
+    rows::two_lines(rows::a_ones(4, 15), rows::a_digits(23))
+}
+
+pub fn ending_lines() -> Lines
+    ensures { λ r. ⌜ Listed r ending ⌝ }
+{
+    rows::three_lines(
+        rows::an_any(32, 4294967295),
+        rows::a_digits(12),
+        rows::an_octets(64),
+    )
+}
+
 // The row of a kind in the table of contents.
 pub fn row_of(f: Form) -> Shape
     ensures { λ r. ⌜ Shaped r (rowOf f) ⌝ }
@@ -170,5 +189,35 @@ pub fn row_of(f: Form) -> Shape
         Form::Hold => table::hold(),
         Form::Raw => table::raw(),
         Form::Unknown => table::unknown(),
+    }
+}
+
+// A clock that names a day which its month doesn't have.
+pub fn no_such_day(c: Content) -> bool
+    ensures { λ r. ⌜ r ≡ noSuchDay c ⌝ }
+{
+    match c {
+        Content::Raw => false,
+        Content::Frequencies { count: _ } => false,
+        Content::Address { length: _ } => false,
+        Content::Keep { on: _, period: _ } => false,
+        Content::Clock {
+            year,
+            month,
+            day,
+            hour: _,
+            minute: _,
+            second: _,
+        } => days::days_in(year, month) < day,
+        Content::Reset { change: _ } => false,
+        Content::Factory => false,
+        Content::Drill { action: _ } => false,
+        Content::Text {
+            kind: _,
+            set: _,
+            length: _,
+        } => false,
+        Content::Command { length: _ } => false,
+        Content::Hold { serial: _ } => false,
     }
 }
