@@ -1,0 +1,45 @@
+-- What the writer's helpers ask and give.
+use mathlib.Core.Path.{_≡_}
+use mathlib.Core.Bool.{Bool, true, _&&_, cond}
+use mathlib.Core.List.{List}
+use Prim.Native.Nat.{ℕ, _+_, _*_, _<_, _≤_}
+use lib.ListN.{length, replicate, take}
+use lib.Seq.{sets}
+use lib.Dec.{leb}
+use Rattle.laws.specs.Bits.{bits}
+use Rattle.laws.specs.Scan.{all}
+use Rattle.format.specs.declared.Line.{Line}
+use Rattle.format.specs.Format.{need, size}
+use Rattle.packet.specs.declared.Lines.{Lines}
+
+-- a line that the writer's loops can put: at most 64 numbers of at most 32 bits
+abbrev pub sound : Line → Bool
+sound t = leb (t .n) 64 && leb (t .w) 32
+
+-- the numbers of a line, where xs are those at hand
+abbrev pub valueOf : Line → List ℕ → List ℕ
+valueOf t xs = cond (t .free) (take (t .n) xs) (replicate (t .n) (t .lo))
+
+-- the bits v put from bit p on, and the place behind them
+pub record After (before after : List ℕ) (p : ℕ) (v : List ℕ) (r : ℕ) (s : ℕ) : Type 0 where
+  pub put : bits after ≡ sets (bits before) p v
+  pub place : r ≡ p + s
+
+-- lines that can be put from bit p on, and enough numbers xs for them
+pub record Puttable (ts : Lines) (xs : List ℕ) (p : ℕ) : Type 0 where
+  pub few : ts .m ≤ 6
+  pub lines : all sound (take (ts .m) (ts .all)) ≡ true
+  pub numbers : need (take (ts .m) (ts .all)) ≤ length xs
+  pub brief : length xs ≤ 1000
+  pub place : p < 30000
+
+-- n rows of lines, each of w numbers and at most 100 bits, from bit p on, and the numbers xs of all of them
+pub record Rows (ts : Lines) (n w : ℕ) (xs : List ℕ) (p : ℕ) : Type 0 where
+  pub few : ts .m ≤ 6
+  pub lines : all sound (take (ts .m) (ts .all)) ≡ true
+  pub each : need (take (ts .m) (ts .all)) ≡ w
+  pub narrow : w ≤ 40
+  pub short : size (take (ts .m) (ts .all)) ≤ 100
+  pub count : n ≤ 255
+  pub numbers : length xs ≡ n * w
+  pub place : p < 3000

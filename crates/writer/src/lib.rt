@@ -1,0 +1,2 @@
+// The packet writer: fields, codes and body as the bytes of a packet.
+mod puts;
