@@ -1,3 +1,5 @@
 pub mod Line
 pub mod Lines
 pub mod Rows
+pub mod Front
+pub mod Count

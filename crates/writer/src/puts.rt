@@ -7,9 +7,12 @@ ghost use lib.Seq.{sets};
 ghost use Rattle.laws.specs.Bits.{bits, spread};
 ghost use Rattle.laws.specs.Scan.{all};
 ghost use Rattle.format.specs.Format.{own, size, encode, fill, times};
+ghost use Rattle.packet.specs.Table.{countLine};
+ghost use mathlib.Core.List.{[]};
 ghost use Rattle.writer.specs.Puts.{sound, valueOf, After, Puttable, Rows};
 use format::Line;
 use packet::Lines;
+use packet::Sort;
 
 // The number at i of a line: its own, or the one that it always has.
 fn number_of(t: Line, xs: &[u32], i: usize) -> u32
@@ -104,4 +107,29 @@ pub(crate) fn put_rows(out: &mut [u8], p: usize, ts: Lines, n: usize, w: usize, 
         j += 1;
     }
     q
+}
+
+// The count of a counted content.
+pub(crate) fn put_count(out: &mut [u8], p: usize, sort: Sort, k: usize) -> usize
+    requires { ⌜ (k ≤ 255) × (p < 30000) ⌝ }
+    ensures { λ r. ⌜ After (now (out .entry)) (now (out .exit)) p (encode (countLine sort k) (fill (countLine sort k) [])) r (size (countLine sort k)) ⌝ }
+{
+    match sort {
+        Sort::Fixed => p,
+        Sort::Counted => {
+            format::put_field(out, p, 8, k as u32);
+            p + 8
+        }
+        Sort::Raw => p,
+        Sort::Unknown => p,
+    }
+}
+
+// Bytes as they are.
+pub(crate) fn put_octets(out: &mut [u8], p: usize, xs: &[u8]) -> usize
+    requires { ⌜ (length (now xs) ≤ 255) × (p < 30000) ⌝ }
+    ensures { λ r. ⌜ After (now (out .entry)) (now (out .exit)) p (spread 8 (now (xs .entry))) r (8 * length (now (xs .entry))) ⌝ }
+{
+    format::put_fields(out, p, 8, xs);
+    p + 8 * xs.len()
 }
