@@ -1,6 +1,5 @@
 -- A count and bytes put into bits. Assumes nothing.
 use mathlib.Core.Path.{_≡_, refl, sym, ap, _∙_}
-use mathlib.Core.Bool.{true}
 use mathlib.Core.List.{List, [], _∷_, _++_, append-nil}
 use Prim.Native.Nat.{ℕ, _+_, _*_, _<_, _≤_}
 use native.Mathlib.Omega.{arith}
@@ -12,7 +11,6 @@ use Rattle.format.specs.Format.{just, size, encode, fill}
 use Rattle.format.specs.Reach.{fieldBits, fieldsBits}
 use Rattle.format.proofs.Leaves.{reached}
 use Rattle.packet.specs.declared.Sort.{Sort}
-use Rattle.packet.specs.declared.Sort.the-variants as sort
 use Rattle.packet.specs.Table.{countLine}
 use Rattle.writer.specs.Puts.{After}
 

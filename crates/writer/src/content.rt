@@ -5,7 +5,11 @@ ghost use Prim.Native.Nat.{_+_, _*_, _<_, _≤_};
 ghost use lib.ListN.{length, take, replicate};
 ghost use lib.Seq.{sets};
 ghost use Rattle.packet.specs.Content.{formFor, numbersOf};
-ghost use Rattle.writer.specs.Puts.{Fronted, Numbered, countOf};
+ghost use Rattle.format.specs.Format.{size};
+ghost use Rattle.packet.specs.Writing.{rowFor};
+ghost use Rattle.writer.specs.Puts.{After, Fronted, Numbered, countOf};
+ghost use Rattle.writer.specs.Parts.{frontBits, frontSize, bodyBits, bodySize, backBits, Lent};
+use crate::puts;
 use packet::Content;
 use packet::Form;
 
@@ -168,4 +172,44 @@ pub(crate) fn front_of(c: Content, digits: [u8; 35]) -> [u32; 41]
     ensures { λ r. ⌜ Fronted c digits r ⌝ }
 {
     with_digits(numbers_of(c), numbers_in(c), digits)
+}
+
+// What stands before the repeated part: the first lines, and the count where there is one.
+fn put_front(out: &mut [u8], p: usize, c: Content, digits: [u8; 35], k: usize) -> usize
+    requires { ⌜ (k ≤ 255) × (p < 3000) ⌝ }
+    ensures { λ r. ⌜ After (now (out .entry)) (now (out .exit)) p (frontBits c digits k) r (frontSize c k) ⌝ }
+{
+    let s = packet::row_of(form_for(c));
+    let before = s.before;
+    let sort = s.sort;
+    let front = front_of(c, digits);
+    let q = puts::put_lines(out, p, before, &front);
+    puts::put_count(out, q, sort, k)
+}
+
+// The repeated part: entries of eight numbers, or bytes, of which most contents have none.
+fn put_body(out: &mut [u8], p: usize, c: Content, body: &[u8]) -> usize
+    requires { ⌜ Lent c (now body) × (p < 3000) ⌝ }
+    ensures { λ r. ⌜ After (now (out .entry)) (now (out .exit)) p (bodyBits c (now (body .entry))) r (bodySize c (now (body .entry))) ⌝ }
+{
+    let f = form_for(c);
+    if packet::type_of(f) == 0 {
+        let s = packet::row_of(f);
+        let each = s.each;
+        let k = count_for(c, body.len());
+        puts::put_rows(out, p, each, k, 8, body)
+    } else {
+        puts::put_octets(out, p, body)
+    }
+}
+
+// What stands behind it.
+fn put_back(out: &mut [u8], p: usize, c: Content, digits: [u8; 35]) -> usize
+    requires { ⌜ p < 30000 ⌝ }
+    ensures { λ r. ⌜ After (now (out .entry)) (now (out .exit)) p (backBits c digits) r (size (rowFor c .after)) ⌝ }
+{
+    let s = packet::row_of(form_for(c));
+    let after = s.after;
+    let back = puts::widened(&digits, 0, 35);
+    puts::put_lines(out, p, after, &back)
 }

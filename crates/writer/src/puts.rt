@@ -79,7 +79,7 @@ pub(crate) fn put_lines(out: &mut [u8], p: usize, ts: Lines, xs: &[u32]) -> usiz
 }
 
 // n of the numbers xs from the at-th on, widened.
-fn widened(xs: &[u8], at: usize, n: usize) -> [u32; 40]
+pub(crate) fn widened(xs: &[u8], at: usize, n: usize) -> [u32; 40]
     requires { ⌜ (n ≤ 40) × (at + n ≤ length (now xs)) ⌝ }
     ensures { λ r. ⌜ (take n r ≡ take n (drop at (now (xs .entry)))) × (length r ≡ 40) ⌝ }
 {

@@ -4,191 +4,142 @@ use Rattle.writer.proofs.Front.{numbered-by}
 use borrow.Author.Needs.{needs}
 use Rattle.writer.proofs.content.numbers_of.Statement.{statement}
 use Rattle.writer.proofs.content.numbers_of.Tie as tie
-use Rattle.writer.proofs.content.numbers_of.Reads as reads
-use Rattle.writer.proofs.content.numbers_of.Lts as lts
-use Rattle.writer.proofs.content.six.Reads as six-reads
 
--- src/content.rt:120:25
 enum-told : tie.Need-enum-told
 enum-told c = search needs
 
--- src/content.rt:120:25
 six-requires : tie.Need-six-requires
 six-requires c κs = search needs
 
--- src/content.rt:121:46
 enum-told-2 : tie.Need-enum-told-2
 enum-told-2 c = search needs
 
--- src/content.rt:121:46
 six-requires-2 : tie.Need-six-requires-2
 six-requires-2 c κs = search needs
 
--- src/content.rt:122:43
 enum-told-3 : tie.Need-enum-told-3
 enum-told-3 c = search needs
 
--- src/content.rt:122:43
 six-requires-3 : tie.Need-six-requires-3
 six-requires-3 c κs = search needs
 
--- src/content.rt:123:25
 enum-known-c : tie.Need-enum-known-c
 enum-known-c c = search needs
 
--- src/content.rt:123:45
 cast-six : tie.Need-cast-six
 cast-six c = search needs
 
--- src/content.rt:123:56
 cast-six-2 : tie.Need-cast-six-2
 cast-six-2 c = search needs
 
--- src/content.rt:123:41
 six-requires-4 : tie.Need-six-requires-4
 six-requires-4 c κs = search needs
 
--- src/content.rt:125:13
 enum-known-c-2 : tie.Need-enum-known-c-2
 enum-known-c-2 c = search needs
 
--- src/content.rt:132:13
 cast-six-3 : tie.Need-cast-six-3
 cast-six-3 c = search needs
 
--- src/content.rt:133:13
 cast-six-4 : tie.Need-cast-six-4
 cast-six-4 c = search needs
 
--- src/content.rt:134:13
 cast-six-5 : tie.Need-cast-six-5
 cast-six-5 c = search needs
 
--- src/content.rt:135:13
 cast-six-6 : tie.Need-cast-six-6
 cast-six-6 c = search needs
 
--- src/content.rt:136:13
 cast-six-7 : tie.Need-cast-six-7
 cast-six-7 c = search needs
 
--- src/content.rt:137:13
 cast-six-8 : tie.Need-cast-six-8
 cast-six-8 c = search needs
 
--- src/content.rt:131:14
 six-requires-5 : tie.Need-six-requires-5
 six-requires-5 c κs = search needs
 
--- src/content.rt:139:26
 enum-known-c-3 : tie.Need-enum-known-c-3
 enum-known-c-3 c = search needs
 
--- src/content.rt:139:42
 cast-six-9 : tie.Need-cast-six-9
 cast-six-9 c = search needs
 
--- src/content.rt:139:38
 six-requires-6 : tie.Need-six-requires-6
 six-requires-6 c κs = search needs
 
--- src/content.rt:140:29
 enum-told-4 : tie.Need-enum-told-4
 enum-told-4 c = search needs
 
--- src/content.rt:140:29
 six-requires-7 : tie.Need-six-requires-7
 six-requires-7 c κs = search needs
 
--- src/content.rt:141:26
 enum-known-c-4 : tie.Need-enum-known-c-4
 enum-known-c-4 c = search needs
 
--- src/content.rt:141:42
 cast-six-10 : tie.Need-cast-six-10
 cast-six-10 c = search needs
 
--- src/content.rt:141:38
 six-requires-8 : tie.Need-six-requires-8
 six-requires-8 c κs = search needs
 
--- src/content.rt:143:13
 enum-known-c-5 : tie.Need-enum-known-c-5
 enum-known-c-5 c = search needs
 
--- src/content.rt:146:18
 cast-six-11 : tie.Need-cast-six-11
 cast-six-11 c = search needs
 
--- src/content.rt:146:31
 cast-six-12 : tie.Need-cast-six-12
 cast-six-12 c = search needs
 
--- src/content.rt:146:14
 six-requires-9 : tie.Need-six-requires-9
 six-requires-9 c κs = search needs
 
--- src/content.rt:147:43
 enum-told-5 : tie.Need-enum-told-5
 enum-told-5 c = search needs
 
--- src/content.rt:147:43
 six-requires-10 : tie.Need-six-requires-10
 six-requires-10 c κs = search needs
 
--- src/content.rt:148:25
 enum-known-c-6 : tie.Need-enum-known-c-6
 enum-known-c-6 c = search needs
 
--- src/content.rt:148:41
 cast-six-13 : tie.Need-cast-six-13
 cast-six-13 c = search needs
 
--- src/content.rt:148:37
 six-requires-11 : tie.Need-six-requires-11
 six-requires-11 c κs = search needs
 
--- src/content.rt:116:1
 returns : tie.Need-returns
 returns c = search needs
 
--- src/content.rt:116:1
 returns-2 : tie.Need-returns-2
 returns-2 c = search needs
 
--- src/content.rt:116:1
 returns-3 : tie.Need-returns-3
 returns-3 c = search needs
 
--- src/content.rt:116:1
 returns-4 : tie.Need-returns-4
 returns-4 c = rw (c .before .before .c .given .1) (numbered-by _ _ _ (c .six4 .ensures .0) (c .six4 .ensures .1) refl (omega arith))
 
--- src/content.rt:116:1
 returns-5 : tie.Need-returns-5
 returns-5 c = rw (c .before .before .c2 .given .1) (numbered-by _ _ _ (c .six5 .ensures .0) (c .six5 .ensures .1) refl (omega arith))
 
--- src/content.rt:116:1
 returns-6 : tie.Need-returns-6
 returns-6 c = rw (c .before .before .c3 .given .1) (numbered-by _ _ _ (c .six6 .ensures .0) (c .six6 .ensures .1) refl (omega arith))
 
--- src/content.rt:116:1
 returns-7 : tie.Need-returns-7
 returns-7 c = search needs
 
--- src/content.rt:116:1
 returns-8 : tie.Need-returns-8
 returns-8 c = rw (c .before .before .c4 .given .1) (numbered-by _ _ _ (c .six8 .ensures .0) (c .six8 .ensures .1) refl (omega arith))
 
--- src/content.rt:116:1
 returns-9 : tie.Need-returns-9
 returns-9 c = rw (c .before .before .c5 .given .1) (numbered-by _ _ _ (c .six9 .ensures .0) (c .six9 .ensures .1) refl (omega arith))
 
--- src/content.rt:116:1
 returns-10 : tie.Need-returns-10
 returns-10 c = search needs
 
--- src/content.rt:116:1
 returns-11 : tie.Need-returns-11
 returns-11 c = rw (c .before .before .c6 .given .1) (numbered-by _ _ _ (c .six11 .ensures .0) (c .six11 .ensures .1) refl (omega arith))
 

@@ -4,27 +4,19 @@ use Rattle.writer.proofs.Count.{octets-put}
 use borrow.Author.Needs.{needs}
 use Rattle.writer.proofs.puts.put_octets.Statement.{statement}
 use Rattle.writer.proofs.puts.put_octets.Tie as tie
-use Rattle.writer.proofs.puts.put_octets.Reads as reads
-use Rattle.writer.proofs.puts.put_octets.Lts as lts
-use Rattle.format.proofs.put_fields.Reads as put-fields-reads
 
--- src/puts.rt:133:5
 put-fields-requires : tie.Need-put-fields-requires
 put-fields-requires c κs = search needs
 
--- src/puts.rt:134:9
 mul-result : tie.Need-mul-result
 mul-result c = search needs
 
--- src/puts.rt:134:5
 add-result : tie.Need-add-result
 add-result c = search needs
 
--- src/puts.rt:129:1
 same-length : tie.Need-same-length
 same-length c = same-long (c .before .before .put-fields .last .0) (c .before .before .before .before .before .before .args .out .now) (c .before .before .before .before .before .before .args .p) (fieldsBits (c .before .before .before .before .before .before .args .p) 8 (c .before .before .before .before .before .before .args .xs .now)) (c .before .before .put-fields .ensures)
 
--- src/puts.rt:129:1
 returns : tie.Need-returns
 returns c = octets-put _ _ _ _ (c .before .before .before .before .before .before .pre .1) (c .before .before .before .before .before .before .pre .0) (c .before .before .put-fields .ensures)
 
