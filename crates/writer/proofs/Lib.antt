@@ -7,3 +7,4 @@ pub mod Contents
 pub mod Shapes
 pub mod Whole
 pub mod Together
+pub mod Inside

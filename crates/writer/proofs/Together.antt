@@ -18,7 +18,7 @@ use Rattle.packet.specs.Table.{code, ending, packet, contentLines, countLine}
 use Rattle.packet.specs.Content.{formFor, countFor}
 use Rattle.packet.specs.Writing.{rowFor, frontFor, backFor, bodyFor, sizeFor, tableFor, numbersFor, valuesFor}
 use Rattle.writer.specs.Puts.{sound, After}
-use Rattle.writer.specs.Parts.{frontSize, bodySize, linesFor, contentBits, contentSize, headBits, endingBits, Lent, Writable}
+use Rattle.writer.specs.Parts.{frontSize, bodySize, linesFor, contentBits, contentSize, headBits, endingBits, Lent, Counts}
 use Rattle.writer.proofs.Rows.{encode-size}
 use Rattle.writer.proofs.Contents.{small, length-front, length-back, body-whole}
 use Rattle.writer.proofs.Shapes.{then-put}
@@ -64,7 +64,7 @@ headed ts xs kind p n =
     (sym (append-assoc (bitsOf 5 kind) (bitsOf 11 (p - 2) ++ bitsOf 8 n) (encode ts (fill ts xs)) ∙ ap (λ (l : List ℕ). bitsOf 5 kind ++ l) (append-assoc (bitsOf 11 (p - 2)) (bitsOf 8 n) (encode ts (fill ts xs)))))
 
 -- ---- the parts
-module _ (f : Fields) (codes body : List ℕ) (h : Writable f codes body) (d : length (f .digits) ≡ 35) (lc : length (f .certificate) ≡ 12) (ls : length (f .signature) ≡ 64) where
+module _ (f : Fields) (codes body : List ℕ) (h : Counts f codes body) (d : length (f .digits) ≡ 35) (lc : length (f .certificate) ≡ 12) (ls : length (f .signature) ≡ 64) where
   abbrev c : Content
   c = f .content
 
@@ -79,11 +79,19 @@ module _ (f : Fields) (codes body : List ℕ) (h : Writable f codes body) (d : l
   middle-long =
       let k = countFor c body in
       length-append (frontFor c (f .digits)) (bodyFor c body ++ backFor c (f .digits))
-      ∙ omega (arith, length-append (bodyFor c body) (backFor c (f .digits)), length-front c (f .digits) d, length-back c (f .digits) d,
-      ap length (body-whole c body (h .lent)), h .lent .numbers,
-      need-append (rowFor c .before) (countLine (rowFor c .sort) k ++ (times k (rowFor c .each) ++ rowFor c .after)),
-      need-append (countLine (rowFor c .sort) k) (times k (rowFor c .each) ++ rowFor c .after),
-      need-append (times k (rowFor c .each)) (rowFor c .after), need-times k (rowFor c .each), count-needs (rowFor c .sort) k)
+      ∙ omega (
+        arith,
+        length-append (bodyFor c body) (backFor c (f .digits)),
+        length-front c (f .digits) d,
+        length-back c (f .digits) d,
+        ap length (body-whole c body (h .lent)),
+        h .lent .numbers,
+        need-append (rowFor c .before) (countLine (rowFor c .sort) k ++ (times k (rowFor c .each) ++ rowFor c .after)),
+        need-append (countLine (rowFor c .sort) k) (times k (rowFor c .each) ++ rowFor c .after),
+        need-append (times k (rowFor c .each)) (rowFor c .after),
+        need-times k (rowFor c .each),
+        count-needs (rowFor c .sort) k,
+      )
 
   ending-bits : encode ending (fill ending tail) ≡ endingBits (f .time) (f .certificate) (f .signature)
   unfolding encode fill endingBits spread
