@@ -8,3 +8,5 @@ pub mod Shapes
 pub mod Whole
 pub mod Together
 pub mod Inside
+pub mod Fine
+pub mod Rules

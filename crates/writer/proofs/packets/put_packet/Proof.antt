@@ -48,7 +48,7 @@ put-content-requires c κs =
     let n = codes-few (c .before .before .before .before .before .before .before .before .before .before .before .before .before .before .before .before .args .f) (c .before .before .before .before .before .before .before .before .before .before .before .before .before .before .before .before .args .body .now) (h .small) in
     let q = c .before .before .before .before .before .before .before .put-head .ensures .place in
     let r = have-put-rows _ _ (c .before .before .before .before .before .before .before .before .before .code-lines .ensures) _ _ _ _ _ _ (c .before .before .before .put-rows .ensures) .place in
-    (h .counts .lent, omega (arith, r, ap (λ (x : ℕ). c .before .before .before .before .before .before .before .before .before .before .before .before .before .before .before .before .args .f .codes * x) code-size))
+    (h .lent, omega (arith, r, ap (λ (x : ℕ). c .before .before .before .before .before .before .before .before .before .before .before .before .before .before .before .before .args .f .codes * x) code-size))
 
 -- src/packets.rt:57:5
 put-ending-requires : tie.Need-put-ending-requires
@@ -57,7 +57,7 @@ put-ending-requires c κs =
     let n = codes-few (c .before .before .before .before .before .before .before .before .before .before .before .before .before .before .before .before .before .before .before .before .args .f) (c .before .before .before .before .before .before .before .before .before .before .before .before .before .before .before .before .before .before .before .before .args .body .now) (h .small) in
     let q = c .before .before .before .before .before .before .before .before .before .before .before .put-head .ensures .place in
     let r = have-put-rows _ _ (c .before .before .before .before .before .before .before .before .before .before .before .before .before .code-lines .ensures) _ _ _ _ _ _ (c .before .before .before .before .before .before .before .put-rows .ensures) .place in
-    omega (arith, r, ap (λ (x : ℕ). c .before .before .before .before .before .before .before .before .before .before .before .before .before .before .before .before .before .before .before .before .args .f .codes * x) code-size, c .before .before .before .put-content .ensures .place, content-small (c .before .before .before .before .before .before .before .before .before .before .before .before .before .before .before .before .before .before .before .before .args .f .content) (c .before .before .before .before .before .before .before .before .before .before .before .before .before .before .before .before .before .before .before .before .args .body .now) (h .counts .lent))
+    omega (arith, r, ap (λ (x : ℕ). c .before .before .before .before .before .before .before .before .before .before .before .before .before .before .before .before .before .before .before .before .args .f .codes * x) code-size, c .before .before .before .put-content .ensures .place, content-small (c .before .before .before .before .before .before .before .before .before .before .before .before .before .before .before .before .before .before .before .before .args .f .content) (c .before .before .before .before .before .before .before .before .before .before .before .before .before .before .before .before .before .before .before .before .args .body .now) (h .lent))
 
 -- src/packets.rt:45:1
 same-length : tie.Need-same-length
