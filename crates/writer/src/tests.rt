@@ -5,12 +5,14 @@ ghost use Prim.Native.Nat.{_+_, _*_, _<_, _≤_};
 ghost use lib.ListN.{length, drop};
 ghost use Rattle.format.specs.Format.{inside, fine, fill, times};
 ghost use Rattle.packet.specs.declared.Form.the-variants as form;
-ghost use Rattle.packet.specs.Table.{rowOf};
-ghost use Rattle.packet.specs.Writing.{rowFor, frontFor, countBad, digitBad, notTaken, sizeFor, writtenAnswer};
+ghost use Rattle.packet.specs.Table.{rowOf, typeOf};
+ghost use Rattle.packet.specs.Content.{formFor, countFor};
+ghost use Rattle.packet.specs.Writing.{rowFor, bodyFor, countBad, digitBad, notTaken, sizeFor, writtenAnswer};
 ghost use lib.Dec.{leb};
 ghost use mathlib.Core.Logic.{_⊎_};
-ghost use Rattle.writer.specs.Parts.{Lent, Counts};
+ghost use Rattle.writer.specs.Parts.{Lent, Bodied, Counts};
 ghost use Rattle.writer.specs.Ranges.{clockFine, rangeFine};
+use crate::content;
 use packet::Content;
 use packet::Fields;
 
@@ -116,4 +118,36 @@ fn range_fine(c: Content) -> bool
         Content::Command { length: _ } => true,
         Content::Hold { serial: _ } => true,
     }
+}
+
+// What is repeated, for an answer: entries are tested, bytes are not.
+fn body_fine(answer: u8, c: Content, body: &[u8]) -> bool
+    requires { ⌜ ((answer ≡ 25) ⊎ (answer ≡ 27)) × Bodied c (now body) × (typeOf (formFor c) ≡ 0 → Lent c (now body)) ⌝ }
+    ensures { λ r. ⌜ r ≡ fine answer (times (countFor c (now (body .entry))) (rowFor c .each)) (fill (times (countFor c (now (body .entry))) (rowFor c .each)) (bodyFor c (now (body .entry)))) ⌝ }
+{
+    if packet::type_of(content::form_for(c)) == 0 {
+        entries_fine(answer, content::count_for(c, body.len()), body)
+    } else {
+        true
+    }
+}
+
+// No digit is above 9, in codes, certificate, entries or beside the content.
+fn digits_fine(f: Fields, codes: &[u8], body: &[u8]) -> bool
+    requires { ⌜ Counts f (now codes) (now body) × (typeOf (formFor (f .content)) ≡ 0 → Lent (f .content) (now body)) ⌝ }
+    ensures { λ r. ⌜ r ≡ not (digitBad f (now (codes .entry)) (now (body .entry))) ⌝ }
+{
+    let c = f.content;
+    let digits = f.digits;
+    let certificate = f.certificate;
+    if !all_inside(&digits, 0, 9) {
+        return false;
+    }
+    if !all_inside(codes, 0, 9) {
+        return false;
+    }
+    if !all_inside(&certificate, 0, 9) {
+        return false;
+    }
+    body_fine(25, c, body)
 }
