@@ -1,16 +1,18 @@
 -- Answers 25 and 27 by the tests of the code. Assumes nothing.
-use mathlib.Core.Path.{_≡_, refl, sym, ap, ap₂, _∙_}
-use mathlib.Core.Bool.{Bool, true, false, not, _&&_, _||_}
+use mathlib.Core.Path.{_≡_, refl, sym, ap, _∙_}
+use mathlib.Core.Bool.{Bool, true, false, not, _&&_, _||_, Bool·not-not}
 use mathlib.Core.List.{List, _∷_, _++_}
-use Prim.Native.Nat.{ℕ, _*_}
-use lib.ListN.{length}
-use Rattle.laws.proofs.Cases.{and-yes, and-no, or-yes, or-no}
+use Prim.Native.Nat.{ℕ, _+_, _-_}
+use native.Mathlib.Omega.{arith}
+use lib.ListN.{length, take, drop, length-drop}
+use lib.Seq.{take-all}
+use Rattle.laws.proofs.Cases.{and-yes, and-no}
 use Rattle.format.specs.Format.{fill, times, inside, fine}
 use Rattle.packet.specs.declared.Content.{Content}
 use Rattle.packet.specs.declared.Fields.{Fields}
 use Rattle.packet.specs.Table.{code, ending}
 use Rattle.packet.specs.Content.{countFor}
-use Rattle.packet.specs.Writing.{rowFor, frontFor, backFor, bodyFor, tableFor, valuesFor, digitBad}
+use Rattle.packet.specs.Writing.{rowFor, backFor, bodyFor, tableFor, valuesFor, digitsBefore, digitsAfter, digitsLost, digitBad}
 use Rattle.writer.specs.Parts.{Counts}
 use Rattle.writer.specs.Ranges.{rangeFine}
 use Rattle.writer.proofs.Fine.{digit, range, packet-fine}
@@ -76,3 +78,10 @@ module _ (f : Fields) (codes body : List ℕ) (h : Counts f codes body) (d : len
         last : (x : Bool) → (x && true) ≡ x
         last true = refl
         last false = refl
+
+-- the digits that a content does not use
+pub digits-kept : (c : Content) (ds : List ℕ) (used : ℕ) (r : Bool) → length ds ≡ 35 → used ≡ digitsBefore c + digitsAfter c → r ≡ inside 0 0 (take (35 - used) (drop used ds)) → r ≡ not (digitsLost c ds)
+digits-kept c ds used r d e f =
+    f
+    ∙ ap (inside 0 0) (take-all (35 - used) (drop used ds) (omega (arith, length-drop used ds)) ∙ ap (λ (n : ℕ). drop n ds) e)
+    ∙ sym (Bool·not-not (inside 0 0 (drop (digitsBefore c + digitsAfter c) ds)))

@@ -1,17 +1,14 @@
 -- What is left of those parts to test: digits, ranges and entries. Assumes nothing.
 use mathlib.Core.Path.{_≡_, refl, sym, ap, ap₂, _∙_, subst}
 use mathlib.Core.Logic.{_⊎_, inl, inr}
-use mathlib.Core.Bool.{Bool, true, false, cond, not, _&&_, _||_, and-true}
+use mathlib.Core.Bool.{true, _&&_, and-true}
 use mathlib.Core.List.{List, [], _∷_, _++_}
-use Prim.Native.Nat.{ℕ, zero, suc, _+_, _*_, _<_, _≤_}
+use Prim.Native.Nat.{ℕ, zero, suc, _*_}
 use native.Mathlib.Nat.{suc-mul}
 use native.Mathlib.Omega.{arith}
-use lib.Dec.{leb, eqb}
 use lib.ListN.{length, take, drop, length-drop, take-append-drop}
-use lib.Seq.{take-at, drop-at, length-take-le, take-all}
+use lib.Seq.{take-at, length-take-le, take-all}
 use Rattle.laws.specs.Scan.{all}
-use Rattle.laws.proofs.Cases.{and-yes}
-use Rattle.format.specs.declared.Line.{Line}
 use Rattle.format.specs.Format.{need, fill, times, inside, fine}
 use Rattle.format.proofs.Tables.{apart, apart-fine, all-times}
 use Rattle.packet.specs.declared.Content.{Content}

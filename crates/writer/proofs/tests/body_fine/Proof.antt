@@ -1,34 +1,21 @@
 use mathlib.Core.Path.{_≡_, sym, ap, _∙_}
-use Prim.Native.Nat.{ℕ, _*_}
-use native.Mathlib.Omega.{arith}
-use lib.ListN.{length}
 use Rattle.packet.specs.Table.{typeOf}
-use Rattle.packet.specs.Content.{formFor, countFor}
+use Rattle.packet.specs.Content.{formFor}
 use Rattle.writer.proofs.Contents.{count-same, entry-need}
 use Rattle.writer.proofs.Rules.{class-of, entries-are, rows-untested}
 use borrow.Author.Needs.{needs}
 use Rattle.writer.proofs.tests.body_fine.Statement.{statement}
 use Rattle.writer.proofs.tests.body_fine.Tie as tie
-use Rattle.writer.proofs.tests.body_fine.Reads as reads
-use Rattle.writer.proofs.tests.body_fine.Lts as lts
-use Rattle.packet.proofs.type_of.Reads as type-of-reads
-use Rattle.writer.proofs.content.count_for.Reads as count-for-reads
-use Rattle.writer.proofs.content.form_for.Reads as form-for-reads
-use Rattle.writer.proofs.tests.entries_fine.Reads as entries-fine-reads
 
--- src/tests.rt:128:24
 form-for-requires : tie.Need-form-for-requires
 form-for-requires c κs = search needs
 
--- src/tests.rt:128:8
 type-of-requires : tie.Need-type-of-requires
 type-of-requires c κs = search needs
 
--- src/tests.rt:129:30
 count-for-requires : tie.Need-count-for-requires
 count-for-requires c κs = search needs
 
--- src/tests.rt:129:9
 entries-fine-requires : tie.Need-entries-fine-requires
 entries-fine-requires c κs =
     let x = c .before .before .before .before .before .args in
@@ -36,7 +23,6 @@ entries-fine-requires c κs =
     let e = c .count-for .ensures ∙ count-same (x .c) (x .body .now) in
     (c .before .before .before .before .before .pre .0, c .before .before .before .before .before .pre .2 q .numbers ∙ rw (e, entry-need (x .c) q))
 
--- src/tests.rt:124:1
 returns : tie.Need-returns
 returns c =
     let x = c .before .before .before .before .before .before .args in
@@ -44,7 +30,6 @@ returns c =
     let e = c .before .count-for .ensures ∙ count-same (x .c) (x .body .now) in
     c .entries-fine .ensures ∙ entries-are (x .answer) (x .c) (x .body .now) _ (c .before .before .before .before .before .before .pre .2 q) q e
 
--- src/tests.rt:124:1
 returns-2 : tie.Need-returns-2
 returns-2 c =
     let x = c .before .before .before .before .args in

@@ -1,28 +1,19 @@
 use mathlib.Core.Path.{_≡_, refl, sym, _∙_}
 use mathlib.Core.Logic.{inl}
-use mathlib.Core.Bool.{true, false}
 use lib.ListN.{length}
 use borrow.Author.Tests.{not-true, not-false}
-use Rattle.format.specs.Format.{inside}
 use Rattle.writer.proofs.Whole.{bodied}
 use Rattle.writer.proofs.Digits.{no-digits, no-codes, no-certificate, by-entries}
 use borrow.Author.Needs.{needs}
 use Rattle.writer.proofs.tests.digits_fine.Statement.{statement}
 use Rattle.writer.proofs.tests.digits_fine.Tie as tie
-use Rattle.writer.proofs.tests.digits_fine.Reads as reads
-use Rattle.writer.proofs.tests.digits_fine.Lts as lts
-use Rattle.writer.proofs.tests.all_inside.Reads as all-inside-reads
-use Rattle.writer.proofs.tests.body_fine.Reads as body-fine-reads
 
--- src/tests.rt:143:20
 slice-aggregate-all-inside : tie.Need-slice-aggregate-all-inside
 slice-aggregate-all-inside c = search needs
 
--- src/tests.rt:143:9
 all-inside-requires : tie.Need-all-inside-requires
 all-inside-requires c κs = search needs
 
--- src/tests.rt:144:9
 returns : tie.Need-returns
 returns c =
     let x = c .before .before .before .before .before .before .before .args in
@@ -31,11 +22,9 @@ returns c =
     let ls : length (x .f .signature) ≡ 64 = search (needs, c .before .before .before .before .before .before .before .good) in
     no-digits (x .f) (x .codes .now) (x .body .now) (c .before .before .before .before .before .before .before .pre .0) d lc ls (sym (c .before .all-inside .ensures) ∙ not-true (c .before .all-inside .result) (c .if1 .taken))
 
--- src/tests.rt:146:9
 all-inside-requires-2 : tie.Need-all-inside-requires-2
 all-inside-requires-2 c κs = search needs
 
--- src/tests.rt:147:9
 returns-2 : tie.Need-returns-2
 returns-2 c =
     let x = c .before .before .before .before .before .before .before .before .before .args in
@@ -45,15 +34,12 @@ returns-2 c =
     no-codes (x .f) (x .codes .now) (x .body .now) (c .before .before .before .before .before .before .before .before .before .pre .0) d lc ls (sym (c .before .before .before .all-inside .ensures) ∙ not-false (c .before .before .before .all-inside .result) (c .before .before .if1 .left))
     (sym (c .before .all-inside2 .ensures) ∙ not-true (c .before .all-inside2 .result) (c .if2 .taken))
 
--- src/tests.rt:149:20
 slice-aggregate-all-inside-2 : tie.Need-slice-aggregate-all-inside-2
 slice-aggregate-all-inside-2 c = search needs
 
--- src/tests.rt:149:9
 all-inside-requires-3 : tie.Need-all-inside-requires-3
 all-inside-requires-3 c κs = search needs
 
--- src/tests.rt:150:9
 returns-3 : tie.Need-returns-3
 returns-3 c =
     let x = c .before .before .before .before .before .before .before .before .before .before .before .before .args in
@@ -63,11 +49,9 @@ returns-3 c =
     no-certificate (x .f) (x .codes .now) (x .body .now) (c .before .before .before .before .before .before .before .before .before .before .before .before .pre .0) d lc ls (sym (c .before .before .before .before .before .before .all-inside .ensures) ∙ not-false (c .before .before .before .before .before .before .all-inside .result) (c .before .before .before .before .before .if1 .left))
     (sym (c .before .before .before .before .all-inside2 .ensures) ∙ not-false (c .before .before .before .before .all-inside2 .result) (c .before .before .before .if2 .left)) (sym (c .before .all-inside3 .ensures) ∙ not-true (c .before .all-inside3 .result) (c .if3 .taken))
 
--- src/tests.rt:152:5
 body-fine-requires : tie.Need-body-fine-requires
 body-fine-requires c κs = (inl refl, c .before .before .before .before .before .before .before .before .before .before .before .before .pre .0 .bodied, c .before .before .before .before .before .before .before .before .before .before .before .before .pre .1)
 
--- src/tests.rt:136:1
 returns-4 : tie.Need-returns-4
 returns-4 c =
     let x = c .before .before .before .before .before .before .before .before .before .before .before .before .before .args in
