@@ -1,0 +1,9 @@
+mod Rule
+mod Octets
+mod Stored
+mod Passed
+mod Window
+mod Onward
+mod Turns
+pub mod Sound
+mod Whole
