@@ -11,3 +11,4 @@ pub mod Elements
 pub mod ByteFields
 pub mod Words
 pub mod Writes
+pub mod Parts

@@ -98,3 +98,7 @@ stop n cs e = if-yes n (first cs) e
 pub pass : {t : Bool} (n : ℕ) (cs : List Case) → t ≡ false → first ((t, n) ∷ cs) ≡ first cs
 unfolding first
 pass n cs e = if-no n (first cs) e
+
+pub none-left : first [] ≡ 0
+unfolding first
+none-left = refl

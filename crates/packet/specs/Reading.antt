@@ -48,8 +48,9 @@ abbrev pub valuesIn : List ℕ → List (List ℕ)
 valuesIn b = decode (tableOf b) (bits b) 0
 
 -- ---- the numbers of the content's three parts
-unfoldable pub partAt : Row → ℕ → ℕ
-partAt r k = size (r .before) + size (countLine (r .sort) k)
+-- what is repeated begins so many bits into the content: after the first lines and the count
+unfoldable pub partAt : Row → ℕ
+partAt r = size (r .before) + size (countLine (r .sort) 0)
 
 -- those of the lines ts that begin at place p
 abbrev pub numbersAt : List Line → List ℕ → ℕ → List ℕ
@@ -59,12 +60,12 @@ unfoldable pub frontIn : List ℕ → List ℕ
 frontIn b = numbersAt (rowOf (formIn b) .before) b (contentAt b)
 
 unfoldable pub bodyIn : List ℕ → List ℕ
-bodyIn b = numbersAt (times (countOf b) (rowOf (formIn b) .each)) b (contentAt b + partAt (rowOf (formIn b)) (countOf b))
+bodyIn b = numbersAt (times (countOf b) (rowOf (formIn b) .each)) b (contentAt b + partAt (rowOf (formIn b)))
 
 unfoldable pub backIn : List ℕ → List ℕ
 backIn b =
     numbersAt (rowOf (formIn b) .after) b
-    (contentAt b + (partAt (rowOf (formIn b)) (countOf b) + countOf b * size (rowOf (formIn b) .each)))
+    (contentAt b + (partAt (rowOf (formIn b)) + countOf b * size (rowOf (formIn b) .each)))
 
 -- ---- the fields
 abbrev pub contentIn : List ℕ → Content
@@ -163,7 +164,7 @@ partBy (suc a) from k b = []
 -- the address, the text, the command or the raw bytes
 unfoldable pub bodyOf : List ℕ → List ℕ
 bodyOf b =
-    partBy (readAnswer b) (3 + 12 * codesIn b + partAt (rowOf (formIn b)) (countOf b) / 8)
+    partBy (readAnswer b) (3 + 12 * codesIn b + partAt (rowOf (formIn b)) / 8)
     (cond (hasEntries (formIn b)) 0 (countOf b)) b
 
 -- the text, 20 bytes into the content; 27 where the type is not 15

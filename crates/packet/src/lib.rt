@@ -1,4 +1,13 @@
-// The packet of GY/T 390-2023, clause 6.1: what its fields are called. Its table and its definitions stand in specs/.
+// The packet of GY/T 390-2023, clause 6.1: what its fields are called, and its table of contents.
+mod days;
+mod rows;
+mod table;
+
+ghost use mathlib.Core.Path.{_≡_};
+ghost use Rattle.packet.specs.Table.{formOf, typeOf, rowOf, code, ending};
+ghost use Rattle.packet.specs.Shape.{Listed, Shaped};
+ghost use Rattle.packet.specs.Content.{noSuchDay};
+use format::Line;
 
 // The kinds of content (000, tables 3 to 6 and 13 to 18); Raw is carried unopened, Unknown refused.
 pub enum Form {
@@ -22,6 +31,20 @@ pub enum Sort {
     Counted,
     Raw,
     Unknown,
+}
+
+// The lines of a table, the first m of six.
+pub struct Lines {
+    pub m: usize,
+    pub all: [Line; 6],
+}
+
+// A row of the table of contents: lines, a row that is repeated, lines.
+pub struct Shape {
+    pub sort: Sort,
+    pub before: Lines,
+    pub each: Lines,
+    pub after: Lines,
 }
 
 // A typed content. Its digits stand beside it, in Fields, and its bytes or entries in what is lent.
@@ -88,4 +111,113 @@ pub struct Opened {
 pub struct Written {
     pub answer: u8,
     pub length: usize,
+}
+
+// The kind of a type (000, table 2).
+pub fn form_of(t: u8) -> Form
+    ensures { λ r. ⌜ r ≡ formOf t ⌝ }
+{
+    match t {
+        0 => Form::Frequencies,
+        1 => Form::Address,
+        2 => Form::Keep,
+        3 => Form::Clock,
+        12 => Form::Reset,
+        13 => Form::Factory,
+        14 => Form::Drill,
+        15 => Form::Text,
+        16 => Form::Command,
+        21 => Form::Hold,
+        4..=8 => Form::Raw,
+        11 => Form::Raw,
+        22..=24 => Form::Raw,
+        _ => Form::Unknown,
+    }
+}
+
+// A type of the kind, by which kinds are compared.
+pub fn type_of(f: Form) -> u8
+    ensures { λ r. ⌜ r ≡ typeOf f ⌝ }
+{
+    match f {
+        Form::Frequencies => 0,
+        Form::Address => 1,
+        Form::Keep => 2,
+        Form::Clock => 3,
+        Form::Reset => 12,
+        Form::Factory => 13,
+        Form::Drill => 14,
+        Form::Text => 15,
+        Form::Command => 16,
+        Form::Hold => 21,
+        Form::Raw => 4,
+        Form::Unknown => 31,
+    }
+}
+
+// A resource code, and what follows the content.
+pub fn code_lines() -> Lines
+    ensures { λ r. ⌜ Listed r code ⌝ }
+{
+    rows::two_lines(rows::a_ones(4, 15), rows::a_digits(23))
+}
+
+pub fn ending_lines() -> Lines
+    ensures { λ r. ⌜ Listed r ending ⌝ }
+{
+    rows::three_lines(
+        rows::an_any(32, 4294967295),
+        rows::a_digits(12),
+        rows::an_octets(64),
+    )
+}
+
+// The row of a kind in the table of contents.
+pub fn row_of(f: Form) -> Shape
+    ensures { λ r. ⌜ Shaped r (rowOf f) ⌝ }
+{
+    match f {
+        Form::Frequencies => table::frequencies(),
+        Form::Address => table::address(),
+        Form::Keep => table::keep(),
+        Form::Clock => table::clock(),
+        Form::Reset => table::reset(),
+        Form::Factory => table::factory(),
+        Form::Drill => table::drill(),
+        Form::Text => table::text(),
+        Form::Command => table::command(),
+        Form::Hold => table::hold(),
+        Form::Raw => table::raw(),
+        Form::Unknown => table::unknown(),
+    }
+}
+
+// A clock that names a day which its month doesn't have.
+pub fn no_such_day(c: Content) -> bool
+    ensures { λ r. ⌜ r ≡ noSuchDay c ⌝ }
+{
+    match c {
+        Content::Raw => false,
+        Content::Frequencies { count: _ } => false,
+        Content::Address { length: _ } => false,
+        Content::Keep { on: _, period: _ } => false,
+        Content::Clock {
+            year,
+            month,
+            day,
+            hour: _,
+            minute: _,
+            second: _,
+        } => days::days_in(year, month) < day,
+        Content::Reset { change: _ } => false,
+        Content::Factory => false,
+        Content::Drill { action: _ } => false,
+        Content::Text {
+            kind: _,
+            set: _,
+            length: _,
+        } => false,
+        Content::Command { length: _ } => false,
+        Content::Hold { serial: _ } => false,
+    }
 }

@@ -1,5 +1,5 @@
 -- `air::put_blocks` meets its contract: its stores, one by one, are the thirteen bytes. Assumes nothing.
-use mathlib.Core.Path.{_≡_, sym, ap}
+use mathlib.Core.Path.{sym, ap}
 use native.Mathlib.Omega.{arith}
 use lib.ListN.{length-set}
 use lib.Seq.{sets}
@@ -7,142 +7,106 @@ use Rattle.air.proofs.Packed.{packed-bytes}
 use borrow.Author.Needs.{needs}
 use Rattle.air.proofs.put_blocks.Statement.{statement}
 use Rattle.air.proofs.put_blocks.Tie as tie
-use Rattle.air.proofs.put_blocks.Reads as reads
-use Rattle.air.proofs.put_blocks.Lts as lts
 
--- src/lib.rt:87:14
 cast-out : tie.Need-cast-out
 cast-out c = search needs
 
--- src/lib.rt:87:5
 slice-write-out : tie.Need-slice-write-out
 slice-write-out c = search needs
 
--- src/lib.rt:88:14
 cast-out-2 : tie.Need-cast-out-2
 cast-out-2 c = search needs
 
--- src/lib.rt:88:5
 slice-write-out-2 : tie.Need-slice-write-out-2
 slice-write-out-2 c = simp length-set (omega arith)
 
--- src/lib.rt:89:14
 cast-out-3 : tie.Need-cast-out-3
 cast-out-3 c = search needs
 
--- src/lib.rt:89:5
 slice-write-out-3 : tie.Need-slice-write-out-3
 slice-write-out-3 c = simp length-set (omega arith)
 
--- src/lib.rt:90:15
 mul-out : tie.Need-mul-out
 mul-out c = search needs
 
--- src/lib.rt:90:15
 add-out : tie.Need-add-out
 add-out c = search needs
 
--- src/lib.rt:90:14
 cast-out-4 : tie.Need-cast-out-4
 cast-out-4 c = search needs
 
--- src/lib.rt:90:5
 slice-write-out-4 : tie.Need-slice-write-out-4
 slice-write-out-4 c = simp length-set (omega arith)
 
--- src/lib.rt:91:14
 cast-out-5 : tie.Need-cast-out-5
 cast-out-5 c = search needs
 
--- src/lib.rt:91:5
 slice-write-out-5 : tie.Need-slice-write-out-5
 slice-write-out-5 c = simp length-set (omega arith)
 
--- src/lib.rt:92:14
 cast-out-6 : tie.Need-cast-out-6
 cast-out-6 c = search needs
 
--- src/lib.rt:92:5
 slice-write-out-6 : tie.Need-slice-write-out-6
 slice-write-out-6 c = simp length-set (omega arith)
 
--- src/lib.rt:93:15
 mul-out-2 : tie.Need-mul-out-2
 mul-out-2 c = search needs
 
--- src/lib.rt:93:15
 add-out-2 : tie.Need-add-out-2
 add-out-2 c = search needs
 
--- src/lib.rt:93:14
 cast-out-7 : tie.Need-cast-out-7
 cast-out-7 c = search needs
 
--- src/lib.rt:93:5
 slice-write-out-7 : tie.Need-slice-write-out-7
 slice-write-out-7 c = simp length-set (omega arith)
 
--- src/lib.rt:94:14
 cast-out-8 : tie.Need-cast-out-8
 cast-out-8 c = search needs
 
--- src/lib.rt:94:5
 slice-write-out-8 : tie.Need-slice-write-out-8
 slice-write-out-8 c = simp length-set (omega arith)
 
--- src/lib.rt:95:14
 cast-out-9 : tie.Need-cast-out-9
 cast-out-9 c = search needs
 
--- src/lib.rt:95:5
 slice-write-out-9 : tie.Need-slice-write-out-9
 slice-write-out-9 c = simp length-set (omega arith)
 
--- src/lib.rt:96:15
 mul-out-3 : tie.Need-mul-out-3
 mul-out-3 c = search needs
 
--- src/lib.rt:96:15
 add-out-3 : tie.Need-add-out-3
 add-out-3 c = search needs
 
--- src/lib.rt:96:14
 cast-out-10 : tie.Need-cast-out-10
 cast-out-10 c = search needs
 
--- src/lib.rt:96:5
 slice-write-out-10 : tie.Need-slice-write-out-10
 slice-write-out-10 c = simp length-set (omega arith)
 
--- src/lib.rt:97:15
 cast-out-11 : tie.Need-cast-out-11
 cast-out-11 c = search needs
 
--- src/lib.rt:97:5
 slice-write-out-11 : tie.Need-slice-write-out-11
 slice-write-out-11 c = simp length-set (omega arith)
 
--- src/lib.rt:98:15
 cast-out-12 : tie.Need-cast-out-12
 cast-out-12 c = search needs
 
--- src/lib.rt:98:5
 slice-write-out-12 : tie.Need-slice-write-out-12
 slice-write-out-12 c = simp length-set (omega arith)
 
--- src/lib.rt:99:15
 cast-out-13 : tie.Need-cast-out-13
 cast-out-13 c = search needs
 
--- src/lib.rt:99:5
 slice-write-out-13 : tie.Need-slice-write-out-13
 slice-write-out-13 c = simp length-set (omega arith)
 
--- src/lib.rt:83:1
 same-length : tie.Need-same-length
 same-length c = simp length-set
 
--- src/lib.rt:83:1
 returns : tie.Need-returns
 returns c = ap (sets (c .args .out .now) 0) (sym (packed-bytes (c .args .a) (c .args .b) (c .args .c) (c .args .d)))
 
