@@ -7,3 +7,5 @@ mod Onward
 mod Turns
 pub mod Sound
 mod Whole
+pub mod Cutting
+pub mod CleanAir

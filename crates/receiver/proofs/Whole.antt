@@ -27,7 +27,7 @@ use Rattle.receiver.specs.Readers.{hunted, followedOn, Ready}
 use Rattle.receiver.proofs.Octets.{shifted-one}
 use Rattle.receiver.proofs.Window.{low-bits}
 use Rattle.receiver.proofs.Onward.{Given}
-use Rattle.receiver.proofs.Sound.{hearing-sound}
+use Rattle.receiver.proofs.Sound.{eights-joined, hearing-sound}
 
 -- ---- from a record
 -- the bits held, as the code takes them out of a record
@@ -105,7 +105,7 @@ module _ (r : Receiver) (d out : List ℕ) where
   taken h k l x room room₀ part o n z (g, s) m p q w =
       let fs = hearing r d .frames in
       let count : x .frames ≡ length fs = ap (λ (y : Read). y .frames) g ∙ zero-add (length fs) in
-      let bytes : length (joined fs) ≡ n = hearing-sound r d .each ∙ omega arith in
+      let bytes : length (joined fs) ≡ n = eights-joined fs (hearing-sound r d .eights) ∙ omega arith in
       let e : part ≡ joined fs =
       p ∙ ap (take n) (s ∙ from-front (joined fs) room₀ (omega arith)) ∙ take-at (joined fs) (drop (length (joined fs)) room₀) n bytes in
       let t : eqb (answerOf r d out) 0 ≡ true = ap (λ (a : ℕ). eqb a 0) (due-none h k l (omega arith)) in (

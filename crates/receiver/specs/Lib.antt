@@ -1,3 +1,4 @@
 pub mod Rule
 pub mod Receive
 pub mod Readers
+pub mod Calls
