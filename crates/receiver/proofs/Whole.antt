@@ -1,5 +1,5 @@
 -- A delivery as a whole: where a reader starts from a record, which refusal is due, and what is written where none is. Assumes nothing.
-use mathlib.Core.Path.{_≡_, refl, sym, ap, ap₂, _∙_, subst}
+use mathlib.Core.Path.{_≡_, sym, ap, ap₂, _∙_, subst}
 use mathlib.Core.Bool.{true, false}
 use mathlib.Core.List.{List, [], _++_}
 use Prim.Native.Nat.{ℕ, _*_, _%_, _^_, _≤_, _<_}
@@ -11,8 +11,7 @@ use lib.Seq.{take-all, take-at}
 use lib.Dec.{eqb}
 use lib.Pow.{pow-pos}
 use Rattle.laws.specs.Bits.{bitsOf, bits}
-use Rattle.laws.specs.Refusals.{first}
-use Rattle.laws.proofs.Refusals.{stop, pass}
+use Rattle.laws.proofs.Refusals.{stop, pass, none-left}
 use Rattle.laws.proofs.Cases.{if-yes, if-no}
 use Rattle.laws.proofs.Writes.{from-front}
 use Rattle.block.specs.declared.Letter.{Letter}
@@ -64,10 +63,6 @@ pub given-as : (room : List ℕ) (n : ℕ) (r : Read) (o : List ℕ) {h h′ : H
 given-as room n r o {h} {h′} e g = subst (λ (x : Heard). Given room x n r o) e g
 
 -- ---- the answer
-no-case : first [] ≡ 0
-unfolding first
-no-case = refl
-
 module _ (r : Receiver) (d out : List ℕ) where
   pub due-28 : 25 < r .count → answerOf r d out ≡ 28
   unfolding answerOf cases
@@ -87,7 +82,7 @@ module _ (r : Receiver) (d out : List ℕ) where
 
   pub due-none : r .count ≤ 25 → length d ≤ 512 → 320 ≤ length out → length (hearing r d .frames) ≤ 40 → answerOf r d out ≡ 0
   unfolding answerOf cases
-  due-none h k l m = pass 28 _ (le-ltb 25 (r .count) h) ∙ pass 11 _ (le-ltb 512 (length d) k) ∙ pass 10 _ (le-ltb (length out) 320 l) ∙ pass 19 _ (le-ltb 40 (length (hearing r d .frames)) m) ∙ no-case
+  due-none h k l m = pass 28 _ (le-ltb 25 (r .count) h) ∙ pass 11 _ (le-ltb 512 (length d) k) ∙ pass 10 _ (le-ltb (length out) 320 l) ∙ pass 19 _ (le-ltb 40 (length (hearing r d .frames)) m) ∙ none-left
 
   -- a refusal returns the record given and writes nothing
   pub refused : (k : ℕ) (x : Received) → answerOf r d out ≡ k → eqb k 0 ≡ false → x ≡ record { answer = k; frames = 0; receiver = r }

@@ -1,3 +1,4 @@
+-- `receiver::read` meets its contract: the reader that the phase names starts from what the record stands for. Assumes nothing.
 use native.Mathlib.Nat.{mod-lt}
 use native.Mathlib.Omega.{arith}
 use lib.Pow.{pow-pos}

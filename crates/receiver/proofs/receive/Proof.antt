@@ -1,3 +1,4 @@
+-- `receiver::receive` meets its contract: a refusal for each test, and else the frames copied out. Assumes nothing.
 use Prim.Native.Nat.{_-_}
 use native.Mathlib.Nat.{sub-zero}
 use mathlib.Core.Path.{refl, ap}

@@ -1,3 +1,4 @@
+-- `receiver::air::bit_at` meets its contract. Assumes nothing.
 use native.Mathlib.Nat.{mod-lt}
 use native.Mathlib.Omega.{arith}
 use Rattle.laws.proofs.Bits.{bit-of}

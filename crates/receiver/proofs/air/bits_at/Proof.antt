@@ -1,3 +1,4 @@
+-- `receiver::air::bits_at` meets its contract: what stands before the bits and behind them is cut off. Assumes nothing.
 use mathlib.Core.Path.{ap₂, _∙_}
 use Prim.Native.Nat.{ℕ, _/_, _%_, _-_, _^_, _≤_}
 use native.Mathlib.Nat.{mod-lt}

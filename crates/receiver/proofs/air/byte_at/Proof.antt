@@ -1,3 +1,4 @@
+-- `receiver::air::byte_at` meets its contract: past the end a list has its default. Assumes nothing.
 use mathlib.Core.Path.{refl, sym}
 use native.Mathlib.Omega.{arith}
 use lib.ListN.{List·getD-eq-default}

@@ -1,3 +1,4 @@
+-- `receiver::air::followed` meets its contract. Assumes nothing.
 use native.Mathlib.Omega.{arith}
 use Rattle.laws.proofs.Bits.{at-small}
 use borrow.Author.Needs.{needs}

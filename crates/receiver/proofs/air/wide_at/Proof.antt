@@ -1,3 +1,4 @@
+-- `receiver::air::wide_at` meets its contract: five bytes are forty bits. Assumes nothing.
 use Rattle.receiver.proofs.Octets.{five}
 use borrow.Author.Needs.{needs}
 use Rattle.receiver.proofs.air.wide_at.Statement.{statement}

@@ -1,3 +1,4 @@
+-- `receiver::output::store` meets its contract: eight bytes, or none where the room ends. Assumes nothing.
 use Rattle.laws.specs.Bits.{bitsOf, bytes}
 use Prim.Native.Nat.{_*_}
 use mathlib.Core.Path.{sym}

@@ -1,3 +1,4 @@
+-- `receiver::readers::begun` meets its contract, letter by letter. Assumes nothing.
 use mathlib.Core.Path.{_≡_, sym, ap, _∙_}
 use Prim.Native.Nat.{_*_, _%_, _^_}
 use native.Mathlib.Omega.{arith}

@@ -1,3 +1,4 @@
+-- `receiver::readers::block_passed` meets its contract, letter by letter. Assumes nothing.
 use Rattle.receiver.proofs.Passed.{to-A, to-B, to-C, to-D}
 use borrow.Author.Needs.{needs}
 use Rattle.receiver.proofs.readers.block_passed.Statement.{statement}
