@@ -19,7 +19,7 @@ use Rattle.receiver.specs.declared.Phase.the-variants.{Hunting, Locked}
 use Rattle.receiver.specs.declared.Receiver.{Receiver}
 use Rattle.receiver.specs.declared.Received.{Received}
 use Rattle.receiver.specs.Rule.{Heard, next, complete, kept, onto, rule, heard}
-use Rattle.receiver.specs.Receive.{begunOf, heldOf, endOf, hearing, joined, answerOf, receivedOf, outputOf}
+use Rattle.receiver.specs.Receive.{begunOf, heldOf, endOf, hearing, joined, answerOf, receivedOf, written, outputOf}
 use Rattle.receiver.specs.Calls.{framesIn, handedOut, Call, allTaken, allFrames, lastReceiver, delivered, inBounds}
 use Rattle.receiver.proofs.Rule.{run, heard-found, heard-on, heard-pass, heard-fail}
 use Rattle.receiver.proofs.Sound.{Eights, hearing-sound, at-most-forty}
@@ -64,6 +64,11 @@ cut-rule =
     heard-fail g (l ++ m) (longer l m k) x (ap (λ (b : ℕ). isValid b x) (same-block l m k) ∙ v)
     ∙ ap (heard Hunting []) (same-rest l m k) ∙ ih m)
 
+-- bits in two parts: what the first part leaves is where the second begins
+pub heard-cut : (p : Phase) (g l m : List ℕ) → heard p g (l ++ m) ≡ onto (heard p g l .frames) (heard (heard p g l .phase) (heard p g l .begun) (heard p g l .held ++ m))
+unfolding Cut heard
+heard-cut p g l m = cut-rule (length l) p g l (omega arith) m
+
 -- ---- a record stands for what the rule left
 stands : (l : List ℕ) → Under 2 l → bitsOf (length l) (at l 0 (length l)) ≡ l
 stands l u = bits-at l 0 (length l) u (omega arith) ∙ take-all (length l) l (omega arith)
@@ -96,7 +101,7 @@ frames-in (f ∷ fs) l (e, u) =
     (ap (λ (m : List ℕ). framesIn (length fs) (drop 8 m)) (append-assoc f (joined fs) l) ∙ ap (framesIn (length fs)) (drop-at f (joined fs ++ l) 8 e) ∙ frames-in fs l u)
 
 module _ (r : Receiver) (d out : List ℕ) where
-  answer-is : receivedOf r d out .answer ≡ answerOf r d out
+  pub answer-is : receivedOf r d out .answer ≡ answerOf r d out
   unfolding receivedOf
   answer-is = by (eqb (answerOf r d out) 0) refl
     where
@@ -118,7 +123,7 @@ module _ (r : Receiver) (d out : List ℕ) where
 
     -- Where a delivery is taken, the count in the answer is the number of frames that the rule yields, and the output holds exactly those frames.
     pub count-is-rule : (receivedOf r d out .frames ≡ length (hearing r d .frames)) × (handedOut r d out ≡ hearing r d .frames)
-    unfolding handedOut outputOf
+    unfolding handedOut outputOf written
     count-is-rule =
         let n = ap (λ (x : Received). x .frames) received-is in
         (n, ap₂ framesIn n (if-yes _ _ zero-yes) ∙ frames-in (hearing r d .frames) (drop (length (joined (hearing r d .frames))) out) (hearing-sound r d .eights))

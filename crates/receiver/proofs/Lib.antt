@@ -9,3 +9,5 @@ pub mod Sound
 mod Whole
 pub mod Cutting
 pub mod CleanAir
+pub mod Answers
+pub mod BitByBit

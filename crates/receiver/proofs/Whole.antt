@@ -21,7 +21,7 @@ use Rattle.receiver.specs.declared.Receiver.{Receiver}
 use Rattle.receiver.specs.declared.Received.{Received}
 use Rattle.receiver.specs.declared.readers.Read.{Read}
 use Rattle.receiver.specs.Rule.{Heard, heard}
-use Rattle.receiver.specs.Receive.{before, passed, heldOf, hearing, joined, cases, answerOf, receivedOf, outputOf}
+use Rattle.receiver.specs.Receive.{before, passed, heldOf, hearing, joined, cases, answerOf, receivedOf, written, outputOf}
 use Rattle.receiver.specs.Readers.{hunted, followedOn, Ready}
 use Rattle.receiver.proofs.Octets.{shifted-one}
 use Rattle.receiver.proofs.Window.{low-bits}
@@ -96,7 +96,7 @@ module _ (r : Receiver) (d out : List ℕ) where
   pub taken : r .count ≤ 25 → length d ≤ 512 → 320 ≤ length out → (x : Read) (room room₀ part o : List ℕ) (n : ℕ)
       → length room₀ ≡ 320 → Given room₀ (hearing r d) 0 x room → x .frames ≤ 40 → part ≡ take n room → n ≡ x .frames * 8 → o ≡ take (length part) part ++ drop (length part) out
       → (_≡_ {A = Received} (record { answer = 0; frames = x .frames; receiver = x .receiver }) (receivedOf r d out)) × (o ≡ outputOf r d out)
-  unfolding receivedOf outputOf
+  unfolding receivedOf outputOf written
   taken h k l x room room₀ part o n z (g, s) m p q w =
       let fs = hearing r d .frames in
       let count : x .frames ≡ length fs = ap (λ (y : Read). y .frames) g ∙ zero-add (length fs) in

@@ -2,3 +2,4 @@ pub mod Rule
 pub mod Receive
 pub mod Readers
 pub mod Calls
+pub mod Steps

@@ -69,9 +69,10 @@ receivedOf r d out =
     (record { answer = 0; frames = length (hearing r d .frames); receiver = endOf (hearing r d) })
     (record { answer = answerOf r d out; frames = 0; receiver = r })
 
--- A refusal writes nothing; else the frames' bytes from the output's first byte, and the rest as it was.
+-- the frames' bytes from the output's first byte, and the rest as it was
+unfoldable pub written : Receiver → List ℕ → List ℕ → List ℕ
+written r d out = joined (hearing r d .frames) ++ drop (length (joined (hearing r d .frames))) out
+
+-- A refusal writes nothing.
 unfoldable pub outputOf : Receiver → List ℕ → List ℕ → List ℕ
-outputOf r d out =
-    cond (eqb (answerOf r d out) 0)
-    (joined (hearing r d .frames) ++ drop (length (joined (hearing r d .frames))) out)
-    out
+outputOf r d out = cond (eqb (answerOf r d out) 0) (written r d out) out
