@@ -87,7 +87,7 @@ pub fn receive(receiver: Receiver, delivery: &[u8], out: &mut [u8]) -> Received
     if out.len() < 320 {
         return refused(10, receiver);
     }
-    let mut room = [0u8; 320];
+    let mut room = output::empty();
     let heard = read(receiver, delivery, &mut room);
     let frames = heard.frames;
     if frames > 40 {

@@ -5,6 +5,13 @@ ghost use lib.ListN.{length};
 ghost use lib.Seq.{sets};
 ghost use Rattle.laws.specs.Bits.{bitsOf, bytes};
 
+// Room for forty frames.
+pub(crate) fn empty() -> [u8; 320]
+    ensures { λ r. ⌜ length r ≡ 320 ⌝ }
+{
+    [0; 320]
+}
+
 // Writes a frame's eight bytes behind those of the frames before it. A 41st has no room.
 pub(crate) fn store(room: &mut [u8], frames: usize, words: u64)
     requires { ⌜ length (now room) ≡ 320 ⌝ }

@@ -1,8 +1,7 @@
 -- `receiver::receive` meets its contract: a refusal for each test, and else the frames copied out. Assumes nothing.
-use Prim.Native.Nat.{_-_}
-use native.Mathlib.Nat.{sub-zero}
 use mathlib.Core.Path.{refl, ap}
-use Prim.Native.Nat.{ℕ, _*_}
+use Prim.Native.Nat.{ℕ, _*_, _-_}
+use native.Mathlib.Nat.{sub-zero}
 use native.Mathlib.Omega.{arith}
 use lib.ListN.{take}
 use Rattle.receiver.specs.declared.readers.Read.{Read}
@@ -29,6 +28,9 @@ refused-requires-3 c κs = search needs
 returns-3 : tie.Need-returns-3
 returns-3 c = let a = c .before .before .before .before .before .before .before .args in refused (a .receiver) (a .delivery .now) (a .out .now) 10 _ (due-10 (a .receiver) (a .delivery .now) (a .out .now) (c .before .before .before .if1 .left) (c .before .before .if2 .left) (c .before .if3 .taken)) refl (c .refused3 .ensures)
 
+empty-requires : tie.Need-empty-requires
+empty-requires c κs = search needs
+
 slice-aggregate-read : tie.Need-slice-aggregate-read
 slice-aggregate-read c = search needs
 
@@ -40,9 +42,9 @@ refused-requires-4 c κs = search needs
 
 returns-4 : tie.Need-returns-4
 returns-4 c =
-    let a = c .before .before .before .before .before .before .before .before .before .before .before .args in
+    let a = c .before .before .before .before .before .before .before .before .before .before .before .before .args in
     let e = ap (λ (x : Read). x .frames) (c .before .before .before .read .ensures .0) in
-    refused (a .receiver) (a .delivery .now) (a .out .now) 19 _ (due-19 (a .receiver) (a .delivery .now) (a .out .now) (c .before .before .before .before .before .before .before .if1 .left) (c .before .before .before .before .before .before .if2 .left) (c .before .before .before .before .before .if3 .left) (omega (arith, c .before .if4 .taken))) refl (c .refused4 .ensures)
+    refused (a .receiver) (a .delivery .now) (a .out .now) 19 _ (due-19 (a .receiver) (a .delivery .now) (a .out .now) (c .before .before .before .before .before .before .before .before .if1 .left) (c .before .before .before .before .before .before .before .if2 .left) (c .before .before .before .before .before .before .if3 .left) (omega (arith, c .before .if4 .taken))) refl (c .refused4 .ensures)
 
 mul-n : tie.Need-mul-n
 mul-n c = search needs
@@ -64,10 +66,10 @@ same-length c = search needs
 
 returns-5 : tie.Need-returns-5
 returns-5 c =
-    let a = c .before .before .before .before .before .before .before .before .before .before .before .before .before .before .before .before .before .args in
+    let a = c .before .before .before .before .before .before .before .before .before .before .before .before .before .before .before .before .before .before .args in
     let room = c .before .before .before .before .before .before .before .before .before .read .last .1 .1 .0 in
     let n = c .before .before .before .before .before .before .before .before .before .read .result .frames * 8 in
-    taken (a .receiver) (a .delivery .now) (a .out .now) (c .before .before .before .before .before .before .before .before .before .before .before .before .before .if1 .left) (c .before .before .before .before .before .before .before .before .before .before .before .before .if2 .left) (c .before .before .before .before .before .before .before .before .before .before .before .if3 .left) (c .before .before .before .before .before .before .before .before .before .read .result) room _ (take (n - 0) room) (c .before .before .before .copy .last .1 .0) n refl (c .before .before .before .before .before .before .before .before .before .read .ensures) (c .before .before .before .before .before .before .before .if4 .left) (ap (λ (m : ℕ). take m room) (sub-zero n)) refl (c .before .before .before .copy .ensures .1)
+    taken (a .receiver) (a .delivery .now) (a .out .now) (c .before .before .before .before .before .before .before .before .before .before .before .before .before .before .if1 .left) (c .before .before .before .before .before .before .before .before .before .before .before .before .before .if2 .left) (c .before .before .before .before .before .before .before .before .before .before .before .before .if3 .left) (c .before .before .before .before .before .before .before .before .before .read .result) room (c .before .before .before .before .before .before .before .before .before .before .before .empty .result) (take (n - 0) room) (c .before .before .before .copy .last .1 .0) n (c .before .before .before .before .before .before .before .before .before .before .before .empty .ensures) (c .before .before .before .before .before .before .before .before .before .read .ensures) (c .before .before .before .before .before .before .before .if4 .left) (ap (λ (m : ℕ). take m room) (sub-zero n)) refl (c .before .before .before .copy .ensures .1)
 
 pub receive-spec : {M : Type 1} → statement M
 receive-spec =
@@ -79,6 +81,7 @@ receive-spec =
     returns-2
     refused-requires-3
     returns-3
+    empty-requires
     slice-aggregate-read
     read-requires
     refused-requires-4
