@@ -1,0 +1,3 @@
+// The packet writer: fields, codes and body as the bytes of a packet.
+mod content;
+mod puts;
