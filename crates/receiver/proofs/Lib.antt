@@ -11,3 +11,4 @@ pub mod Cutting
 pub mod CleanAir
 pub mod Answers
 pub mod BitByBit
+pub mod FirstBlock

@@ -14,7 +14,7 @@ use Rattle.receiver.specs.declared.Receiver.{Receiver}
 use Rattle.receiver.specs.declared.Received.{Received}
 use Rattle.receiver.specs.Rule.{Heard, heard}
 
--- "A fresh receiver hunts with no bits held."
+-- a receiver that has heard nothing: it hunts and holds no bit
 abbrev pub freshReceiver : Receiver
 freshReceiver = record { phase = Hunting; bits = 0; count = 0; words = 0 }
 
@@ -50,7 +50,8 @@ unfoldable pub joined : List (List ℕ) → List ℕ
 joined [] = []
 joined (f ∷ fs) = f ++ joined fs
 
--- "over 25 bits pending": 28; "delivery over 512 bytes": 11; "lent output too short", at least 320 bytes: 10; "a 41st frame in one delivery": 19
+-- the refusals in their order (paper 01, "Numbers given back"): 28, a record with more than 25 bits pending; 11, a delivery of more than 512 bytes;
+-- 10, an output of fewer than 320; 19, a delivery that completes more than 40 frames
 unfoldable pub cases : Receiver → List ℕ → List ℕ → List Case
 cases r d out =
     (ltb 25 (r .count), 28)
@@ -62,7 +63,7 @@ cases r d out =
 unfoldable pub answerOf : Receiver → List ℕ → List ℕ → ℕ
 answerOf r d out = first (cases r d out)
 
--- A refusal returns the state given and no frame; else the count of frames, and the receiver as the rule leaves it.
+-- refused: the record that was given, and no frame; taken: how many frames there are, and the receiver as the rule leaves it
 unfoldable pub receivedOf : Receiver → List ℕ → List ℕ → Received
 receivedOf r d out =
     cond (eqb (answerOf r d out) 0)
@@ -73,6 +74,6 @@ receivedOf r d out =
 unfoldable pub written : Receiver → List ℕ → List ℕ → List ℕ
 written r d out = joined (hearing r d .frames) ++ drop (length (joined (hearing r d .frames))) out
 
--- A refusal writes nothing.
+-- refused: as it was
 unfoldable pub outputOf : Receiver → List ℕ → List ℕ → List ℕ
 outputOf r d out = cond (eqb (answerOf r d out) 0) (written r d out) out

@@ -19,14 +19,14 @@ pub record Heard : Type 0 where
   pub begun : List ℕ
   pub held : List ℕ
 
--- "expects B, C, D, then A again"
+-- the letter that is expected after one that passed (paper 01: after A come B, C and D, and then A of the next frame)
 abbrev pub next : Letter → Letter
 next A = B
 next B = C
 next C = D
 next D = A
 
--- "When D passes, the 8 information bytes are written": the frame that is complete once the block of a letter passed, and what stays begun
+-- once the block of a letter passed, with g the information bits up to it: the frame that is complete, at D alone, and what stays begun
 abbrev pub complete : Letter → List ℕ → List (List ℕ)
 complete A g = []
 complete B g = []
@@ -46,11 +46,12 @@ ended p g l = record { frames = []; phase = p; begun = g; held = l }
 abbrev pub onto : List (List ℕ) → Heard → Heard
 onto fs h = record { frames = fs ++ h .frames; phase = h .phase; begun = h .begun; held = h .held }
 
--- The rule, on the frame begun g and the bits l. The number n, no less than the count of bits, only shows that it ends.
--- "Hunting, it looks at the latest 26 bits taken since hunting began; when they are a valid block with offset A, it is locked and expects B":
--- l starts with the oldest bit that is still to be looked at, so the first 26 are looked at, and if they are no block A that bit goes.
--- "Each following 26 bits must be valid for the expected offset. If not, the frame begun is dropped and hunting begins
--- with no bits held, at the bit after the failing block."
+-- The rule, on the information bits g of the frame begun and the bits l left, those held first. It stops where fewer than 26 are left.
+-- Hunting: the bits since hunting began pass by, and the latest 26 are looked at with each one more. l starts with the oldest bit that is still
+-- among them, so it is the first 26 of l that are looked at: a block A locks, and B is expected behind it; else that oldest bit is given up.
+-- Locked: the next 26 must be a block of the letter expected. Where they are none, what is begun is dropped, and hunting begins behind
+-- those 26 with nothing held. No bit is changed anywhere.
+-- The number n is no less than the count of bits and only shows that the rule ends.
 unfoldable pub rule : ℕ → Phase → List ℕ → List ℕ → Heard
 rule zero p g l = ended p g l
 rule (suc n) Hunting g l =
