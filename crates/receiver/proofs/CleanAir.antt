@@ -1,8 +1,8 @@
 -- Clean air comes back: what was put on air frame by frame is what a fresh receiver hands out. Assumes nothing.
-use mathlib.Core.Path.{_≡_, ap, ap₂, _∙_}
+use mathlib.Core.Path.{sym, _≡_, ap, ap₂, _∙_, refl}
 use mathlib.Core.Bool.{true}
-use mathlib.Core.List.{List, [], _∷_, _++_, append-assoc}
-use Prim.Native.Nat.{ℕ, _+_, _*_, _^_, _≤_, _<_}
+use mathlib.Core.List.{List, [], _∷_, _++_, append-assoc, append-nil}
+use Prim.Native.Nat.{ℕ, zero, suc, _+_, _*_, _^_, _≤_, _<_}
 use native.Mathlib.Omega.{arith}
 use lib.ListN.{length, take, drop, length-append}
 use lib.Seq.{take-at, drop-at}
@@ -13,7 +13,8 @@ use Rattle.block.specs.Block.{offsetOf, checkWord, isValid}
 use Rattle.block.specs.declared.Letter.{Letter}
 use Rattle.block.specs.declared.Letter.the-variants.{A, B, C, D}
 use Rattle.block.proofs.Validity.{check-word-small, made-valid}
-use Rattle.frame.specs.OnAir.{blockBits, frameBits, streamOf}
+use Rattle.frame.specs.OnAir.{blockBits, frameBits, airBytes, streamOf}
+use Rattle.frame.specs.Examples.{zeros-on-air}
 use Rattle.frame.proofs.OnAir.{block-number, length-block, wordAt, block, information, stream-bits}
 use Rattle.receiver.specs.declared.Phase.the-variants.{Hunting, Locked}
 use Rattle.receiver.specs.Rule.{Heard, next, complete, kept, onto, heard}
@@ -122,3 +123,24 @@ clean-air f fs c cs u b e =
     let r = cutting-any freshReceiver c cs t in
     let h : hearing freshReceiver (delivered (c ∷ cs)) ≡ heardClean (f ∷ fs) = ap (hearing freshReceiver) e ∙ fresh-stream f fs u in
     (t, r .0 ∙ ap (λ (x : Heard). x .frames) h, r .1 ∙ ap endOf h)
+
+-- The listing program's example: thirteen bytes, one frame of eight zeros, and the receiver expects A with nothing pending.
+abbrev zeros : List ℕ
+zeros = 0 ∷ 0 ∷ 0 ∷ 0 ∷ 0 ∷ 0 ∷ 0 ∷ 0 ∷ []
+
+small-zeros : Under 256 zeros
+small-zeros zero = omega arith
+small-zeros (suc zero) = omega arith
+small-zeros (suc (suc zero)) = omega arith
+small-zeros (suc (suc (suc zero))) = omega arith
+small-zeros (suc (suc (suc (suc zero)))) = omega arith
+small-zeros (suc (suc (suc (suc (suc zero))))) = omega arith
+small-zeros (suc (suc (suc (suc (suc (suc zero)))))) = omega arith
+small-zeros (suc (suc (suc (suc (suc (suc (suc zero))))))) = omega arith
+small-zeros (suc (suc (suc (suc (suc (suc (suc (suc i)))))))) = omega arith
+
+pub listing-example : hearing freshReceiver (0x00 ∷ 0x00 ∷ 0x3F ∷ 0x00 ∷ 0x00 ∷ 0x19 ∷ 0x80 ∷ 0x00 ∷ 0x05 ∷ 0xA0 ∷ 0x00 ∷ 0x01 ∷ 0xB4 ∷ []) ≡ heardClean (zeros ∷ [])
+unfolding streamOf
+listing-example =
+    ap (hearing freshReceiver) (sym (append-nil (airBytes zeros) ∙ zeros-on-air))
+    ∙ fresh-stream zeros [] ((refl, small-zeros), tt)
