@@ -5,3 +5,5 @@ pub mod Front
 pub mod Count
 pub mod Contents
 pub mod Shapes
+pub mod Whole
+pub mod Together

@@ -8,7 +8,7 @@ ghost use Rattle.packet.specs.Content.{formFor, numbersOf};
 ghost use Rattle.format.specs.Format.{size};
 ghost use Rattle.packet.specs.Writing.{rowFor};
 ghost use Rattle.writer.specs.Puts.{After, Fronted, Numbered, countOf};
-ghost use Rattle.writer.specs.Parts.{frontBits, frontSize, bodyBits, bodySize, backBits, Lent};
+ghost use Rattle.writer.specs.Parts.{frontBits, frontSize, bodyBits, bodySize, backBits, contentBits, contentSize, Lent};
 use crate::puts;
 use packet::Content;
 use packet::Form;
@@ -212,4 +212,21 @@ fn put_back(out: &mut [u8], p: usize, c: Content, digits: [u8; 35]) -> usize
     let after = s.after;
     let back = puts::widened(&digits, 0, 35);
     puts::put_lines(out, p, after, &back)
+}
+
+// A whole content from bit p on; the place behind it.
+pub(crate) fn put_content(
+    out: &mut [u8],
+    p: usize,
+    c: Content,
+    digits: [u8; 35],
+    body: &[u8],
+) -> usize
+    requires { ⌜ Lent c (now body) × (p < 2000) ⌝ }
+    ensures { λ r. ⌜ After (now (out .entry)) (now (out .exit)) p (contentBits c digits (now (body .entry))) r (contentSize c (now (body .entry))) ⌝ }
+{
+    let k = count_for(c, body.len());
+    let q = put_front(out, p, c, digits, k);
+    let e = put_body(out, q, c, body);
+    put_back(out, e, c, digits)
 }
