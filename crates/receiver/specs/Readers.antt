@@ -1,4 +1,4 @@
--- What the two readers and their helpers cite: the rule on the bits left from a place of a delivery on.
+-- What the two readers and the small functions under them cite: the rule on the bits left from a place of a delivery on.
 use mathlib.Core.Path.{_≡_}
 use mathlib.Core.List.{List, [], _∷_, _++_}
 use Prim.Native.Nat.{ℕ, _+_, _*_, _^_, _≤_, _<_}
