@@ -12,7 +12,7 @@ use lib.Dec.{leb, eqb}
 use borrow.Author.Tests.{not-true, not-false, eq-eqb, ne-eqb, leb-true, lt-ltb, le-ltb, le-leb, lt-leb}
 use Rattle.laws.specs.Bits.{bits}
 use Rattle.laws.specs.Scan.{all, indexOf}
-use Rattle.laws.specs.Refusals.{first, none}
+use Rattle.laws.specs.Refusals.{first, none, among, apart as apart-cases}
 use Rattle.laws.proofs.Bits.{at-small}
 use Rattle.laws.proofs.ByteFields.{at-byte, at-parts}
 use Rattle.crc.specs.Crc16.{crc16}
@@ -418,3 +418,16 @@ module _ (c : Collector) (l v : ℕ) (out : List ℕ) where
           ap (λ (r : Place). copyAnswer (first (copyCases r (length out))) r) e ∙ ap (λ (n : ℕ). copyAnswer n q) w,
           ap (λ (r : Place). copyBytes (first (copyCases r (length out))) r out) e ∙ ap (λ (n : ℕ). copyBytes n q out) w,
         )
+
+-- ---- no number stands for two cases, and none is 0: so the law `exact` holds of each list
+pub offer-apart : (c : Collector) (f : List ℕ) → apart-cases (offerCases c f) ≡ true
+unfolding offerCases refusals takeCases apart-cases among
+offer-apart c f = refl
+
+pub release-apart : (c : Collector) (l v : ℕ) → apart-cases (releaseCases c l v) ≡ true
+unfolding releaseCases apart-cases among
+release-apart c l v = refl
+
+pub copy-apart : (c : Collector) (l v n : ℕ) → apart-cases (copiedCases c l v n) ≡ true
+unfolding copiedCases copyCases apart-cases among
+copy-apart c l v n = refl

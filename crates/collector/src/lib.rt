@@ -106,15 +106,15 @@ fn index_of(c: Collector, level: u8, version: u8) -> usize
 fn first_free(c: Collector) -> usize
     ensures { λ r. ⌜ r ≡ indexOfFree (c .places) ⌝ }
 {
-    let mut i = 0;
-    while i < 4 {
-        let p = c.places[i];
+    let mut j = 0;
+    while j < 4 {
+        let p = c.places[j];
         if !p.held {
-            return i;
+            return j;
         }
-        i += 1;
+        j += 1;
     }
-    i
+    j
 }
 
 // The collector with the piece kept in place `i`, which was `p`.

@@ -163,13 +163,15 @@ pub(crate) fn take(x: Piece) -> Place
     ensures { λ r. ⌜ r ≡ taken x ⌝ }
 {
     let total = x.heading.total;
+    let marks = [false; 63];
+    let bytes = [0; 252];
     Place {
         held: true,
         level: x.heading.level,
         version: x.heading.version,
         total: total,
-        marks: [false; 63],
-        bytes: [0; 252],
+        marks: marks,
+        bytes: bytes,
     }
 }
 

@@ -1,4 +1,4 @@
--- `collector::first_free` meets its contract. The loop's invariant: the first free place is i places on from the first among those left. Assumes nothing.
+-- `collector::first_free` meets its contract. The loop's invariant: the first free place is j places on from the first among those left. Assumes nothing.
 use mathlib.Core.Path.{_≡_}
 use Prim.Native.Nat.{_+_, _-_, _≤_}
 use native.Mathlib.Omega.{arith}
@@ -13,10 +13,10 @@ use Rattle.collector.proofs.first_free.Statement.{statement}
 use Rattle.collector.proofs.first_free.Tie as tie
 
 abbrev Inv-loop : tie.InvT-loop
-Inv-loop c i₀ i = (i ≤ 4) × (indexOf isFree (c .places) ≡ i + indexOf isFree (drop i (c .places)))
+Inv-loop c j₀ j = (j ≤ 4) × (indexOf isFree (c .places) ≡ j + indexOf isFree (drop j (c .places)))
 
 abbrev μ-loop : tie.MeasureT-loop
-μ-loop c i₀ i = 4 - i
+μ-loop c j₀ j = 4 - j
 
 loop-holds : tie.Need-loop-holds Inv-loop μ-loop
 loop-holds c = search needs
@@ -33,10 +33,10 @@ returns c =
     let b = c .before .before .before .before in
     let xs = b .before .args .t1 .places in
     let n : length xs ≡ 4 = search (needs, length-mapped) in
-    omega (arith, b .loop .inv .1, index-stop isFree xs _ (b .loop .i) (omega arith) (c .if1 .taken))
+    omega (arith, b .loop .inv .1, index-stop isFree xs _ (b .loop .j) (omega arith) (c .if1 .taken))
 
-add-i : tie.Need-add-i Inv-loop μ-loop
-add-i c = search needs
+add-j : tie.Need-add-j Inv-loop μ-loop
+add-j c = search needs
 
 loop-less : tie.Need-loop-less Inv-loop μ-loop
 loop-less c = search needs
@@ -46,7 +46,7 @@ loop-again c =
     let b = c .before .before .before .before in
     let xs = b .before .args .t1 .places in
     let n : length xs ≡ 4 = search (needs, length-mapped) in
-    (search needs, omega (arith, b .loop .inv .1, index-next isFree xs _ (b .loop .i) (omega arith) (c .if1 .left)))
+    (search needs, omega (arith, b .loop .inv .1, index-next isFree xs _ (b .loop .j) (omega arith) (c .if1 .left)))
 
 returns-2 : tie.Need-returns-2 Inv-loop μ-loop
 unfolding indexOfFree
@@ -54,7 +54,7 @@ returns-2 c =
     let b = c .before in
     let xs = b .before .args .t1 .places in
     let n : length xs ≡ 4 = search (needs, length-mapped) in
-    omega (arith, b .loop .inv .1, index-end isFree xs (b .loop .i) (omega arith))
+    omega (arith, b .loop .inv .1, index-end isFree xs (b .loop .j) (omega arith))
 
 pub first-free-spec : {M : Type 1} → statement M
 first-free-spec =
@@ -66,7 +66,7 @@ first-free-spec =
     mul-p
     element-copy-out-p
     returns
-    add-i
+    add-j
     loop-less
     loop-again
     returns-2)
