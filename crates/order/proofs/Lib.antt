@@ -9,3 +9,4 @@ pub mod Running
 pub mod Offering
 pub mod Copying
 pub mod Theorems
+pub mod Declared

@@ -92,7 +92,7 @@ ready-rest qs [] rest c r = r
 ready-rest qs (x ∷ ps) rest c r = ready-rest qs ps rest (takenIn c x .collector) (ready-tail qs c x (ps ++ rest) r)
 
 -- ---- a run, seen at one key: `look` reads the collector there, `is` says which frames speak of it, and `val` what they say
-abbrev orElse : {B : Type 0} → Option B → Option B → Option B
+abbrev pub orElse : {B : Type 0} → Option B → Option B → Option B
 orElse none o = o
 orElse (some b) o = some b
 
@@ -105,6 +105,17 @@ mix true v (some b) p a = ap some (sym (a refl b refl))
 or-none : {B : Type 0} (o : Option B) → orElse o none ≡ o
 or-none none = refl
 or-none (some b) = refl
+
+-- what two lists say one after the other
+pub found-append : {B : Type 0} (is : Piece → Bool) (val : Piece → B) (xs ys : List Piece) → firstOf is val (xs ++ ys) ≡ orElse (firstOf is val xs) (firstOf is val ys)
+unfolding firstOf
+found-append is val [] ys = refl
+found-append is val (z ∷ xs) ys = one (is z) (found-append is val xs ys)
+  where
+    one : (k : Bool) → firstOf is val (xs ++ ys) ≡ orElse (firstOf is val xs) (firstOf is val ys)
+        → cond k (some (val z)) (firstOf is val (xs ++ ys)) ≡ orElse (cond k (some (val z)) (firstOf is val xs)) (firstOf is val ys)
+    one true h = refl
+    one false h = h
 
 module _ {B : Type 0} (look : Collector → Option B) (is : Piece → Bool) (val : Piece → B)
     (stepped : (c : Collector) (x : Piece) (c′ : Collector) → Stepped c x c′ → look c′ ≡ cond (is x) (some (val x)) (look c))
@@ -128,16 +139,7 @@ module _ {B : Type 0} (look : Collector → Option B) (is : Piece → Bool) (val
       sym (or-none (cond (is x) (some (val x)) (look c)))
       ∙ mix (is x) (val x) (look c) none (agreed c x a)
       ∙ ap (λ (o : Option B). orElse o (cond (is x) (some (val x)) none)) e
-      ∙ sym (append ps (x ∷ []))
-    where
-      append : (xs ys : List Piece) → firstOf is val (xs ++ ys) ≡ orElse (firstOf is val xs) (firstOf is val ys)
-      append [] ys = refl
-      append (z ∷ xs) ys = one (is z) (append xs ys)
-        where
-          one : (k : Bool) → firstOf is val (xs ++ ys) ≡ orElse (firstOf is val xs) (firstOf is val ys)
-              → cond k (some (val z)) (firstOf is val (xs ++ ys)) ≡ orElse (cond k (some (val z)) (firstOf is val xs)) (firstOf is val ys)
-          one true h = refl
-          one false h = h
+      ∙ sym (found-append is val ps (x ∷ []))
 
 -- ---- what is held, and totals
 pub key-parts : (l v : ℕ) (m : Number) (x : Piece) → ofKey l v m x ≡ true → (x .heading .level ≡ l) × (x .heading .version ≡ v) × (x .heading .number .0 ≡ m .0)
@@ -223,7 +225,7 @@ same-is x y k =
     ∙ sym e)
     (λ e. and-no _ e ∙ sym e)
 
-came-given : (ps : List Piece) (y : Piece) → ((x : Piece) → List·Memᴰ x ps → Clear x y) → came ps y ≡ isSome (given ps (y .heading .level) (y .heading .version) (y .heading .number))
+pub came-given : (ps : List Piece) (y : Piece) → ((x : Piece) → List·Memᴰ x ps → Clear x y) → came ps y ≡ isSome (given ps (y .heading .level) (y .heading .version) (y .heading .number))
 unfolding came firstOf
 came-given [] y k = refl
 came-given (x ∷ ps) y k =

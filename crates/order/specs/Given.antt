@@ -131,3 +131,11 @@ dueCases xs y = (came xs y, 2) ∷ declareCases (y .heading .total) (givenWith x
 -- the answer due to a frame, from the frames before it: its heading's refusal first
 unfoldable pub due : List (List ℕ) → List ℕ → ℕ
 due before f = first (refusals f ++ dueCases (pieces before) (pieceOf f))
+
+-- every number of a pair has come: as many as its total says
+abbrev pub completeBy : Option Total → (Number → Option Four) → Bool
+completeBy none g = false
+completeBy (some t) g = full t g
+
+abbrev pub completed : List Piece → ℕ → ℕ → Bool
+completed xs l v = completeBy (totalGiven xs l v) (given xs l v)

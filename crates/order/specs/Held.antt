@@ -1,9 +1,10 @@
 -- What a collector holds, by pair and number, and what becomes of it in a run.
-use mathlib.Core.Bool.{Bool, true, false, cond, _&&_}
+use mathlib.Core.Bool.{Bool, true, false, cond, _&&_, _||_}
 use mathlib.Core.List.{List, [], _∷_}
 use mathlib.Core.Option.{Option, none, some}
 use Prim.Native.Nat.{ℕ, _+_, _*_}
 use lib.ListN.{getD}
+use lib.Dec.{eqb}
 use Rattle.frame.specs.declared.Total.{Total}
 use Rattle.frame.specs.declared.Number.{Number}
 use Rattle.collector.specs.declared.Place.{Place}
@@ -11,7 +12,7 @@ use Rattle.collector.specs.declared.Collector.{Collector}
 use Rattle.collector.specs.declared.Piece.{Piece}
 use Rattle.collector.specs.declared.Offered.{Offered}
 use Rattle.collector.specs.Places.{isPair, marked}
-use Rattle.collector.specs.Collector.{takenIn, offered, released}
+use Rattle.collector.specs.Collector.{pieceOf, takenIn, offered, released}
 
 -- four bytes of packet
 abbrev pub Four : Type 0
@@ -68,3 +69,13 @@ done c (releasing l v) = released c l v
 unfoldable pub run : Collector → List Act → Collector
 run c [] = c
 run c (a ∷ acts) = run (done c a .collector) acts
+
+-- a frame of this pair is answered 1 or 17; and how often that comes in a run
+unfoldable pub declares : ℕ → ℕ → Collector → List ℕ → Bool
+declares l v c f =
+    (eqb (pieceOf f .heading .level) l && eqb (pieceOf f .heading .version) v)
+    && (eqb (offered c f .answer) 1 || eqb (offered c f .answer) 17)
+
+unfoldable pub declarations : ℕ → ℕ → Collector → List (List ℕ) → ℕ
+declarations l v c [] = 0
+declarations l v c (f ∷ fs) = cond (declares l v c f) 1 0 + declarations l v (offered c f .collector) fs
