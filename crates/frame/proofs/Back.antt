@@ -8,15 +8,8 @@ use Rattle.laws.specs.Bits.{at, bitsOf, run}
 use Rattle.laws.proofs.Bits.{at-bits}
 use Rattle.laws.proofs.ByteFields.{at-parts, at-front, at-behind}
 use Rattle.frame.specs.declared.Heading.{Heading}
-use Rattle.frame.specs.Heading.{headingOf, headingBits, headingBytes}
+use Rattle.frame.specs.Heading.{Fits, headingOf, headingBits, headingBytes}
 use Rattle.frame.proofs.Fields.{says-0}
-
--- the fields are in the width that they have on air
-pub record Fits (h : Heading) : Type 0 where
-  pub level : h .level < 8
-  pub version : h .version < 32
-  pub total : h .total .0 < 64
-  pub number : h .number .0 < 64
 
 -- the fields behind each field
 abbrev after-number : Heading → List ℕ

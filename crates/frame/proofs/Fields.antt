@@ -12,7 +12,7 @@ use Rattle.laws.specs.Refusals.{first}
 use Rattle.laws.proofs.ByteFields.{at-byte, at-parts}
 use Rattle.laws.proofs.Cases.{and-yes, and-both, or-yes, or-no, if-yes, if-no}
 use Rattle.laws.proofs.Elements.{by-test}
-use Rattle.laws.proofs.Refusals.{stop, pass}
+use Rattle.laws.proofs.Refusals.{stop, pass, none-left}
 use Rattle.frame.specs.declared.Total.{Total}
 use Rattle.frame.specs.declared.Number.{Number}
 use Rattle.frame.specs.declared.Heading.{Heading}
@@ -90,10 +90,6 @@ unfolding outside
 outside-no t n h = or-no _ (ne-eqb _ _ (λ (e : t .0 ≡ 0). omega arith)) ∙ lt-leb _ _ h
 
 -- ---- the answer, by the first case that holds
-none-left : first [] ≡ 0
-unfolding first
-none-left = refl
-
 module _ (f : List ℕ) where
   pub due-26 : (length f ≡ 8 → ⊥) → first (refusals f) ≡ 26
   unfolding refusals

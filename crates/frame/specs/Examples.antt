@@ -4,9 +4,12 @@ use mathlib.Core.List.{List, [], _∷_}
 use Prim.Native.Nat.{ℕ}
 use Rattle.laws.specs.Bits.{at, bitsOf, run, spread}
 use Rattle.laws.specs.Refusals.{first}
+use Rattle.laws.specs.Poly.{reduce, remainder}
+use Rattle.block.specs.Block.{syndrome, checkWord}
 use Rattle.frame.specs.declared.Heading.{Heading}
 use Rattle.frame.specs.declared.Headed.{Headed}
 use Rattle.frame.specs.Heading.{fixed, reserved, outside, refusals, fieldsOf, noHeading, headingOf, headingBits, headingWords, headingBytes}
+use Rattle.frame.specs.OnAir.{blockBits, frameBits, airBytes}
 
 -- level 5, version 3, total 20, number 17
 abbrev pub pier : ℕ → Heading
@@ -37,3 +40,8 @@ last-number = refl
 pub past-last : headingOf (0x20 ∷ 0xFF ∷ 0xB0 ∷ 0x0F ∷ 1 ∷ 2 ∷ 3 ∷ 4 ∷ []) .answer ≡ 14
 unfolding headingOf refusals fieldsOf fixed reserved outside first at bitsOf spread
 past-last = refl
+
+-- the listing program's example: eight bytes of zero on air
+pub zeros-on-air : airBytes (0 ∷ 0 ∷ 0 ∷ 0 ∷ 0 ∷ 0 ∷ 0 ∷ 0 ∷ []) ≡ 0x00 ∷ 0x00 ∷ 0x3F ∷ 0x00 ∷ 0x00 ∷ 0x19 ∷ 0x80 ∷ 0x00 ∷ 0x05 ∷ 0xA0 ∷ 0x00 ∷ 0x01 ∷ 0xB4 ∷ []
+unfolding airBytes frameBits blockBits checkWord syndrome remainder reduce at bitsOf spread run
+zeros-on-air = refl

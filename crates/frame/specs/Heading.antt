@@ -2,7 +2,7 @@
 -- Block 1: level 3 bits, version 5, total 6, number's high 2. Block 2: 10110, 000000, 0, number's low 4.
 use mathlib.Core.Bool.{Bool, cond, not, _&&_, _||_}
 use mathlib.Core.List.{List, [], _∷_, _++_}
-use Prim.Native.Nat.{ℕ, _+_, _*_, _/_, _%_, _^_}
+use Prim.Native.Nat.{ℕ, _+_, _*_, _/_, _%_, _^_, _<_}
 use lib.ListN.{length}
 use lib.Dec.{eqb, leb}
 use Rattle.laws.specs.Bits.{at, bitsOf, bits, bytes}
@@ -67,6 +67,13 @@ headingOf f =
 -- the heading is accepted
 unfoldable pub accepted : List ℕ → Bool
 accepted f = eqb (headingOf f .answer) 0
+
+-- its fields are in the widths that they have on air
+pub record Fits (h : Heading) : Type 0 where
+  pub level : h .level < 8
+  pub version : h .version < 32
+  pub total : h .total .0 < 64
+  pub number : h .number .0 < 64
 
 -- ---- the other way: the 32 bits of blocks 1 and 2, as two words and as four bytes
 

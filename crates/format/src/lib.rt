@@ -1,0 +1,217 @@
+// A table language for formats of bits: what a line of a table is, and the numbers of a table read, tested and written.
+ghost use mathlib.Core.Path.{_≡_};
+ghost use mathlib.Core.Bool.{_&&_, cond};
+ghost use Prim.Native.Nat.{_+_, _*_, _<_, _≤_, _-_, _^_};
+ghost use lib.ListN.{length, getD, set};
+ghost use lib.Seq.{sets};
+ghost use Rattle.laws.specs.Bits.{at, bitsOf, run, spread, bits};
+ghost use Rattle.format.specs.Format.{inside};
+ghost use Rattle.format.specs.Reach.{reach, fieldOf, fieldsOf, inRange, fieldBits, fieldsBits};
+
+// A line: n numbers of w bits, each lo to hi; other is what a reader answers where one is not.
+// A line that is not free has no numbers of its own: each of its numbers is lo.
+pub struct Line {
+    pub n: usize,
+    pub w: usize,
+    pub lo: u32,
+    pub hi: u32,
+    pub other: u8,
+    pub free: bool,
+}
+
+// Numbers that the functions below read and write; past it they read 0 and write nothing.
+fn reaches(p: usize, n: usize, w: usize) -> bool
+    ensures { λ r. ⌜ r ≡ reach p n w ⌝ }
+{
+    if p < 65536 {
+        if n < 256 { w <= 32 } else { false }
+    } else {
+        false
+    }
+}
+
+// ---- reading
+
+// The byte at i, and 0 past the end.
+fn byte(b: &[u8], i: usize) -> u8
+    ensures { λ r. ⌜ r ≡ getD (now (b .entry)) i 0 ⌝ }
+{
+    if i < b.len() { b[i] } else { 0 }
+}
+
+// Bit i, the highest of the first byte being bit 0.
+fn bit(b: &[u8], i: usize) -> u32
+    ensures { λ r. ⌜ r ≡ getD (bits (now (b .entry))) i 0 ⌝ }
+{
+    let x = byte(b, i / 8) as u32;
+    (x >> ((7 - i % 8) as u32)) % 2
+}
+
+fn read_field(b: &[u8], p: usize, w: usize) -> u32
+    requires { ⌜ (w ≤ 32) × (p < 80000) ⌝ }
+    ensures { λ r. ⌜ r ≡ at (bits (now (b .entry))) p w ⌝ }
+{
+    let mut x: u32 = 0;
+    let mut j: usize = 0;
+    while j < w {
+        x = x * 2 + bit(b, p + j);
+        j += 1;
+    }
+    x
+}
+
+// The number of w bits from bit p on.
+pub fn field(b: &[u8], p: usize, w: usize) -> u32
+    ensures { λ r. ⌜ r ≡ fieldOf (bits (now (b .entry))) p w ⌝ }
+{
+    if reaches(p, 1, w) {
+        read_field(b, p, w)
+    } else {
+        0
+    }
+}
+
+fn small(b: &[u8], p: usize, w: usize) -> u8
+    requires { ⌜ (w ≤ 8) × (p < 80000) ⌝ }
+    ensures { λ r. ⌜ r ≡ at (bits (now (b .entry))) p w ⌝ }
+{
+    read_field(b, p, w) as u8
+}
+
+fn put(out: &mut [u8], i: usize, v: u8)
+    ensures { λ _. ⌜ now (out .exit) ≡ set (now (out .entry)) i v ⌝ }
+{
+    if i < out.len() {
+        out[i] = v;
+    }
+}
+
+fn read_fields(b: &[u8], p: usize, n: usize, w: usize, out: &mut [u8], to: usize)
+    requires { ⌜ (w ≤ 8) × (p < 65536) × (n < 256) × (to < 65536) ⌝ }
+    ensures { λ _. ⌜ now (out .exit) ≡ sets (now (out .entry)) to (run (bits (now (b .entry))) p n w) ⌝ }
+{
+    let mut q = p;
+    let mut j: usize = 0;
+    while j < n {
+        let x = small(b, q, w);
+        put(out, to + j, x);
+        q += w;
+        j += 1;
+    }
+}
+
+// n numbers of w bits, at most 8, from bit p on, to out from to on.
+pub fn fields(b: &[u8], p: usize, n: usize, w: usize, out: &mut [u8], to: usize)
+    ensures { λ _. ⌜ now (out .exit) ≡ sets (now (out .entry)) to (fieldsOf (bits (now (b .entry))) p n w to) ⌝ }
+{
+    if reaches(p, n, w) {
+        if w <= 8 {
+            if to < 65536 {
+                read_fields(b, p, n, w, out, to);
+            }
+        }
+    }
+}
+
+fn test_range(b: &[u8], p: usize, n: usize, w: usize, lo: u32, hi: u32) -> bool
+    requires { ⌜ (w ≤ 32) × (p < 65536) × (n < 256) ⌝ }
+    ensures { λ r. ⌜ r ≡ inside lo hi (run (bits (now (b .entry))) p n w) ⌝ }
+{
+    let mut q = p;
+    let mut j: usize = 0;
+    while j < n {
+        let x = read_field(b, q, w);
+        if x < lo {
+            return false;
+        }
+        if x > hi {
+            return false;
+        }
+        q += w;
+        j += 1;
+    }
+    true
+}
+
+// Each of n numbers of w bits from bit p on is lo to hi.
+pub fn ranged(b: &[u8], p: usize, n: usize, w: usize, lo: u32, hi: u32) -> bool
+    ensures { λ r. ⌜ r ≡ inRange (bits (now (b .entry))) p n w lo hi ⌝ }
+{
+    if reaches(p, n, w) {
+        test_range(b, p, n, w, lo, hi)
+    } else {
+        false
+    }
+}
+
+// ---- writing
+
+// The weight of bit i of a byte.
+fn weight(i: usize) -> u32
+    requires { ⌜ i < 8 ⌝ }
+    ensures { λ r. ⌜ r ≡ 2 ^ (7 - i) ⌝ }
+{
+    1 << ((7 - i) as u32)
+}
+
+// x with v for bit i.
+fn with_bit(x: u8, i: usize, v: u8) -> u8
+    requires { ⌜ (i < 8) × (v < 2) ⌝ }
+    ensures { λ r. ⌜ r ≡ at (set (bitsOf 8 x) i v) 0 8 ⌝ }
+{
+    let m = weight(i);
+    let y = x as u32;
+    (y - (y / m % 2) * m + (v as u32) * m) as u8
+}
+
+fn put_bit(out: &mut [u8], i: usize, v: u8)
+    requires { ⌜ v < 2 ⌝ }
+    ensures { λ _. ⌜ bits (now (out .exit)) ≡ set (bits (now (out .entry))) i v ⌝ }
+{
+    let x = byte(out, i / 8);
+    let y = with_bit(x, i % 8, v);
+    put(out, i / 8, y);
+}
+
+fn write_field(out: &mut [u8], p: usize, w: usize, x: u32)
+    requires { ⌜ (w ≤ 32) × (p < 80000) ⌝ }
+    ensures { λ _. ⌜ bits (now (out .exit)) ≡ sets (bits (now (out .entry))) p (bitsOf w x) ⌝ }
+{
+    let mut j: usize = 0;
+    while j < w {
+        let v = ((x >> ((w - 1 - j) as u32)) % 2) as u8;
+        put_bit(out, p + j, v);
+        j += 1;
+    }
+}
+
+// The w bits of x from bit p on.
+pub fn put_field(out: &mut [u8], p: usize, w: usize, x: u32)
+    ensures { λ _. ⌜ bits (now (out .exit)) ≡ sets (bits (now (out .entry))) p (fieldBits p w x) ⌝ }
+{
+    if reaches(p, 1, w) {
+        write_field(out, p, w, x);
+    }
+}
+
+fn write_fields(out: &mut [u8], p: usize, w: usize, d: &[u8])
+    requires { ⌜ (w ≤ 32) × (p < 65536) × (length (now d) < 256) ⌝ }
+    ensures { λ _. ⌜ bits (now (out .exit)) ≡ sets (bits (now (out .entry))) p (spread w (now (d .entry))) ⌝ }
+{
+    let mut q = p;
+    let mut j: usize = 0;
+    while j < d.len() {
+        write_field(out, q, w, d[j] as u32);
+        q += w;
+        j += 1;
+    }
+}
+
+// The w bits of each number of d, from bit p on.
+pub fn put_fields(out: &mut [u8], p: usize, w: usize, d: &[u8])
+    ensures { λ _. ⌜ bits (now (out .exit)) ≡ sets (bits (now (out .entry))) p (fieldsBits p w (now (d .entry))) ⌝ }
+{
+    if reaches(p, d.len(), w) {
+        write_fields(out, p, w, d);
+    }
+}

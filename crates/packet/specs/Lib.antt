@@ -1,0 +1,6 @@
+pub mod Table
+pub mod Content
+pub mod Reading
+pub mod Writing
+pub mod Examples
+pub mod Shape

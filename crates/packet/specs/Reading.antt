@@ -1,0 +1,175 @@
+-- What a packet's bytes say, and what a reader answers (paper 01, "Packet" and "Numbers given back", Reader).
+use Prim.Native.Nat.{ℕ, zero, suc, _+_, _-_, _*_, _/_}
+use mathlib.Core.List.{List, [], _∷_, _++_}
+use mathlib.Core.Bool.{Bool, true, false, not, _&&_, _||_, cond}
+use lib.ListN.{length, replicate, take, drop}
+use lib.Seq.{sets}
+use lib.Dec.{leb, eqb}
+use Rattle.laws.specs.Bits.{at, run, bits}
+use Rattle.laws.specs.Refusals.{Case, first}
+use Rattle.format.specs.declared.Line.{Line}
+use Rattle.format.specs.Format.{times, size, decode, flat, fine}
+use Rattle.packet.specs.declared.Form.{Form}
+use Rattle.packet.specs.declared.Content.{Content}
+use Rattle.packet.specs.declared.Content.the-variants as content
+use Rattle.packet.specs.declared.Fields.{Fields}
+use Rattle.packet.specs.declared.Opened.{Opened}
+use Rattle.packet.specs.Table.{formOf, typeOf, Row, rowOf, countLine, contentLines, code, packet, countIn}
+use Rattle.packet.specs.Content.{contentOf, numbersIn, noSuchDay}
+
+-- ---- the heading (000, table 1): type, length field, count of codes
+abbrev pub kindIn : List ℕ → ℕ
+kindIn b = at (bits b) 0 5
+
+abbrev pub lengthIn : List ℕ → ℕ
+lengthIn b = at (bits b) 5 11
+
+abbrev pub codesIn : List ℕ → ℕ
+codesIn b = at (bits b) 16 8
+
+abbrev pub formIn : List ℕ → Form
+formIn b = formOf (kindIn b)
+
+-- ---- the content: where its bits begin, how many bytes it has, how often its row stands
+abbrev pub contentAt : List ℕ → ℕ
+contentAt b = 24 + 96 * codesIn b
+
+abbrev pub contentSize : List ℕ → ℕ
+contentSize b = length b - 77 - 12 * codesIn b
+
+unfoldable pub countOf : List ℕ → ℕ
+countOf b = countIn (rowOf (formIn b)) (bits b) (contentAt b) (contentSize b)
+
+-- ---- the table that the packet names, and its values by it
+unfoldable pub tableOf : List ℕ → List Line
+tableOf b = packet (rowOf (formIn b)) (kindIn b) (length b) (codesIn b) (countOf b)
+
+abbrev pub valuesIn : List ℕ → List (List ℕ)
+valuesIn b = decode (tableOf b) (bits b) 0
+
+-- ---- the numbers of the content's three parts
+-- what is repeated begins so many bits into the content: after the first lines and the count
+unfoldable pub partAt : Row → ℕ
+partAt r = size (r .before) + size (countLine (r .sort) 0)
+
+-- those of the lines ts that begin at place p
+abbrev pub numbersAt : List Line → List ℕ → ℕ → List ℕ
+numbersAt ts b p = flat ts (decode ts (bits b) p)
+
+unfoldable pub frontIn : List ℕ → List ℕ
+frontIn b = numbersAt (rowOf (formIn b) .before) b (contentAt b)
+
+unfoldable pub bodyIn : List ℕ → List ℕ
+bodyIn b = numbersAt (times (countOf b) (rowOf (formIn b) .each)) b (contentAt b + partAt (rowOf (formIn b)))
+
+unfoldable pub backIn : List ℕ → List ℕ
+backIn b =
+    numbersAt (rowOf (formIn b) .after) b
+    (contentAt b + (partAt (rowOf (formIn b)) + countOf b * size (rowOf (formIn b) .each)))
+
+-- ---- the fields
+abbrev pub contentIn : List ℕ → Content
+contentIn b = contentOf (formIn b) (frontIn b) (countOf b)
+
+-- the digits beside the content: what stands after its numbers, and after its bytes
+abbrev pub digitsIn : List ℕ → List ℕ
+digitsIn b = drop (numbersIn (formIn b)) (frontIn b) ++ backIn b
+
+-- n zeros, and a list with zeros after it to length n
+unfoldable pub zeros : ℕ → List ℕ
+zeros n = replicate n 0
+
+abbrev pub padded : ℕ → List ℕ → List ℕ
+padded n xs = sets (zeros n) 0 xs
+
+-- the digits of the codes, 23 a code
+unfoldable pub codesOf : List ℕ → List ℕ
+codesOf b = numbersAt (times (codesIn b) code) b 24
+
+-- frequencies have entries, and the others bytes
+abbrev pub hasEntries : Form → Bool
+hasEntries f = eqb (typeOf f) 0
+
+unfoldable pub fieldsOf : List ℕ → Fields
+fieldsOf b =
+    record {
+      kind = kindIn b;
+      codes = codesIn b;
+      content = contentIn b;
+      digits = padded 35 (digitsIn b);
+      time = at (bits b) (8 * (length b - 74)) 32;
+      certificate = run (bits b) (8 * (length b - 70)) 12 4;
+      signature = run (bits b) (8 * (length b - 64)) 64 8;
+    }
+
+-- ---- the answer, in the order of paper 01
+-- 20: not 77 to 250 bytes, or not the length field and 2, or under 77 and 12 a code
+unfoldable pub sizeBad : List ℕ → Bool
+sizeBad b = not ((leb 77 (length b) && leb (length b) 250) && (eqb (length b) (lengthIn b + 2) && leb (77 + 12 * codesIn b) (length b)))
+
+-- 26: the content's lines are not as long as the content
+unfoldable pub lengthBad : List ℕ → Bool
+lengthBad b = not (eqb (size (contentLines (rowOf (formIn b)) (countOf b))) (8 * contentSize b))
+
+abbrev pub isUnknown : Form → Bool
+isUnknown f = eqb (typeOf f) 31
+
+-- 27: a field outside its range, or no such day
+abbrev pub fieldBad : List ℕ → Bool
+fieldBad b = not (fine 27 (tableOf b) (valuesIn b)) || noSuchDay (contentIn b)
+
+-- the cases before a field's; x is what is answered 27
+abbrev pub casesThen : List ℕ → Bool → List Case
+casesThen b x =
+    (sizeBad b, 20)
+    ∷ (isUnknown (formIn b), 23)
+    ∷ (lengthBad b, 26)
+    ∷ (not (fine 24 (tableOf b) (valuesIn b)), 24)
+    ∷ (not (fine 25 (tableOf b) (valuesIn b)), 25)
+    ∷ (x, 27)
+    ∷ []
+
+abbrev pub readCases : List ℕ → List Case
+readCases b = casesThen b (fieldBad b)
+
+unfoldable pub readAnswer : List ℕ → ℕ
+readAnswer b = first (readCases b)
+
+-- ---- what is opened; beside a refusal all zero, the content raw
+unfoldable pub noFields : Fields
+noFields =
+    record { kind = 0; codes = 0; content = content.Raw; digits = zeros 35; time = 0; certificate = zeros 12; signature = zeros 64 }
+
+abbrev pub refusedAs : ℕ → Opened
+refusedAs a = record { answer = a; fields = noFields; codes = zeros 322; entries = zeros 272 }
+
+abbrev pub openedBy : ℕ → List ℕ → Opened
+openedBy zero b =
+    record {
+      answer = 0;
+      fields = fieldsOf b;
+      codes = padded 322 (codesOf b);
+      entries = padded 272 (cond (hasEntries (formIn b)) (bodyIn b) []);
+    }
+openedBy (suc a) b = refusedAs (suc a)
+
+unfoldable pub opened : List ℕ → Opened
+opened b = openedBy (readAnswer b) b
+
+-- ---- parts of the packet: k bytes from a byte on, where the answer is 0
+abbrev pub partBy : ℕ → ℕ → ℕ → List ℕ → List ℕ
+partBy zero from k b = take k (drop from b)
+partBy (suc a) from k b = []
+
+-- the address, the text, the command or the raw bytes
+unfoldable pub bodyOf : List ℕ → List ℕ
+bodyOf b =
+    partBy (readAnswer b) (3 + 12 * codesIn b + partAt (rowOf (formIn b)) / 8)
+    (cond (hasEntries (formIn b)) 0 (countOf b)) b
+
+-- the text, 20 bytes into the content; 27 where the type is not 15
+unfoldable pub textAnswer : List ℕ → ℕ
+textAnswer b = first (casesThen b (fieldBad b || not (eqb (kindIn b) 15)))
+
+unfoldable pub textOf : List ℕ → List ℕ
+textOf b = partBy (textAnswer b) (23 + 12 * codesIn b) (countOf b) b

@@ -1,0 +1,19 @@
+-- The code's tables are those of Table: the first m of six lines.
+use mathlib.Core.Path.{_≡_}
+use mathlib.Core.List.{List}
+use Prim.Native.Nat.{_≤_}
+use lib.ListN.{take}
+use Rattle.format.specs.declared.Line.{Line}
+use Rattle.packet.specs.declared.Lines.{Lines}
+use Rattle.packet.specs.declared.Shape.{Shape}
+use Rattle.packet.specs.Table.{Row}
+
+pub record Listed (r : Lines) (ts : List Line) : Type 0 where
+  pub lines : take (r .m) (r .all) ≡ ts
+  pub few : r .m ≤ 6
+
+pub record Shaped (r : Shape) (t : Row) : Type 0 where
+  pub same : r .sort ≡ t .sort
+  pub first : Listed (r .before) (t .before)
+  pub rows : Listed (r .each) (t .each)
+  pub last : Listed (r .after) (t .after)

@@ -1,0 +1,109 @@
+-- The packet as a table (000, 6.1.1 and 6.1.2; paper 01, "Packet"): a row for each kind of content, and the lines about them.
+use Prim.Native.Nat.{ℕ, _+_, _-_, _*_}
+use mathlib.Core.List.{List, [], _∷_, _++_}
+use mathlib.Core.Bool.{Bool, true, false, _&&_, _||_}
+use lib.Dec.{leb, eqb}
+use Rattle.laws.specs.Bits.{at}
+use Rattle.format.specs.declared.Line.{Line}
+use Rattle.format.specs.Format.{num, only, any, ones, digits, octets, just, times, size}
+use Rattle.packet.specs.declared.Form.{Form}
+use Rattle.packet.specs.declared.Form.the-variants.{Frequencies, Address, Keep, Clock, Reset, Factory, Drill, Text, Command, Hold, Raw, Unknown}
+use Rattle.packet.specs.declared.Sort.{Sort}
+use Rattle.packet.specs.declared.Sort.the-variants as sort
+
+-- ---- the kinds by type (000, table 2): the opened ones, those carried raw, and the rest
+abbrev pub pick : Bool → Form → Form → Form
+pick true a b = a
+pick false a b = b
+
+unfoldable pub formOf : ℕ → Form
+formOf t =
+    pick (eqb t 0) Frequencies
+    (pick (eqb t 1) Address
+    (pick (eqb t 2) Keep
+    (pick (eqb t 3) Clock
+    (pick (eqb t 12) Reset
+    (pick (eqb t 13) Factory
+    (pick (eqb t 14) Drill
+    (pick (eqb t 15) Text
+    (pick (eqb t 16) Command
+    (pick (eqb t 21) Hold
+    (pick (leb 4 t && leb t 8) Raw
+    (pick (eqb t 11) Raw
+    (pick (leb 22 t && leb t 24) Raw
+    Unknown))))))))))))
+
+-- a type of each kind, for comparing kinds: the only one, but for Raw and Unknown
+abbrev pub typeOf : Form → ℕ
+typeOf Frequencies = 0
+typeOf Address = 1
+typeOf Keep = 2
+typeOf Clock = 3
+typeOf Reset = 12
+typeOf Factory = 13
+typeOf Drill = 14
+typeOf Text = 15
+typeOf Command = 16
+typeOf Hold = 21
+typeOf Raw = 4
+typeOf Unknown = 31
+
+-- ---- a row of the table of contents: lines, a row of lines that is repeated, lines; where counted, the count stands after the first
+pub record Row : Type 0 where
+  pub sort : Sort
+  pub before : List Line
+  pub each : List Line
+  pub after : List Line
+
+abbrev pub fixed : List Line → Row
+fixed ls = record { sort = sort.Fixed; before = ls; each = []; after = [] }
+
+abbrev pub counted : List Line → List Line → List Line → Row
+counted ls row rest = record { sort = sort.Counted; before = ls; each = row; after = rest }
+
+-- the table of contents
+abbrev pub rowOf : Form → Row
+rowOf Frequencies = counted [] (num 8 1 255 ∷ any 8 ∷ digits 6 ∷ []) []
+rowOf Address = counted [] (octets 1 ∷ []) (ones 4 ∷ digits 23 ∷ [])
+rowOf Keep = fixed (num 8 0 1 ∷ any 16 ∷ [])
+rowOf Clock = fixed (any 16 ∷ num 8 1 12 ∷ num 8 1 31 ∷ num 8 0 23 ∷ num 8 0 59 ∷ num 8 0 59 ∷ [])
+rowOf Reset = fixed (only 2 1 ∷ num 2 1 2 ∷ ones 4 ∷ digits 6 ∷ [])
+rowOf Factory = fixed (only 2 1 ∷ ones 6 ∷ [])
+rowOf Drill = fixed (only 4 1 ∷ num 4 1 2 ∷ ones 4 ∷ digits 35 ∷ [])
+rowOf Text = counted (num 4 1 3 ∷ num 4 0 4 ∷ ones 4 ∷ digits 35 ∷ []) (octets 1 ∷ []) []
+rowOf Command = counted [] (octets 1 ∷ []) []
+rowOf Hold = fixed (any 8 ∷ ones 8 ∷ [])
+rowOf Raw = record { sort = sort.Raw; before = []; each = octets 1 ∷ []; after = [] }
+rowOf Unknown = record { sort = sort.Unknown; before = []; each = []; after = [] }
+
+-- the count of a counted content, k; it has 8 bits
+abbrev pub countLine : Sort → ℕ → List Line
+countLine sort.Fixed k = []
+countLine sort.Counted k = just 8 k ∷ []
+countLine sort.Raw k = []
+countLine sort.Unknown k = []
+
+-- the lines of a content whose row stands k times
+unfoldable pub contentLines : Row → ℕ → List Line
+contentLines r k = r .before ++ (countLine (r .sort) k ++ (times k (r .each) ++ r .after))
+
+-- ---- the whole packet (000, table 1; the code n times)
+abbrev pub code : List Line
+code = ones 4 ∷ digits 23 ∷ []
+
+abbrev pub ending : List Line
+ending = any 32 ∷ digits 12 ∷ octets 64 ∷ []
+
+-- a packet of type t and p bytes, with n codes and a content whose row stands k times
+unfoldable pub packet : Row → ℕ → ℕ → ℕ → ℕ → List Line
+packet r t p n k = just 5 t ∷ just 11 (p - 2) ∷ just 8 n ∷ (times n code ++ (contentLines r k ++ ending))
+
+-- how often the row stands in a content of m bytes that begins at place q of the bits l
+abbrev pub countIn : Row → List ℕ → ℕ → ℕ → ℕ
+countIn r l q m = by (r .sort)
+  where
+    by : Sort → ℕ
+    by sort.Fixed = 0
+    by sort.Counted = at l (q + size (r .before)) 8
+    by sort.Raw = m
+    by sort.Unknown = 0

@@ -1,0 +1,123 @@
+-- The bytes of a packet from its fields, and what a writer answers (paper 01, "Numbers given back", Packet writer).
+use Prim.Native.Nat.{ℕ, zero, suc, _+_, _-_, _*_, _/_}
+use mathlib.Core.List.{List, [], _∷_, _++_}
+use mathlib.Core.Bool.{Bool, true, false, not, _&&_, _||_, cond}
+use lib.ListN.{length, take, drop}
+use lib.Dec.{leb, ltb, eqb}
+use Rattle.laws.specs.Bits.{bytes}
+use Rattle.laws.specs.Refusals.{Case, first}
+use Rattle.format.specs.declared.Line.{Line}
+use Rattle.format.specs.Format.{size, need, encode, fill, inside, fine}
+use Rattle.packet.specs.declared.Sort.{Sort}
+use Rattle.packet.specs.declared.Sort.the-variants as sort
+use Rattle.packet.specs.declared.Content.{Content}
+use Rattle.packet.specs.declared.Fields.{Fields}
+use Rattle.packet.specs.declared.Written.{Written}
+use Rattle.packet.specs.Table.{formOf, typeOf, Row, rowOf, contentLines, packet}
+use Rattle.packet.specs.Content.{formFor, numbersOf, countFor, noSuchDay}
+use Rattle.packet.specs.Reading.{isUnknown}
+
+-- ---- the content's own row, and its numbers in the order of its lines
+abbrev pub rowFor : Content → Row
+rowFor c = rowOf (formFor c)
+
+-- so many digits stand before the count, and so many after the bytes
+abbrev pub digitsBefore : Content → ℕ
+digitsBefore c = need (rowFor c .before) - length (numbersOf c)
+
+abbrev pub digitsAfter : Content → ℕ
+digitsAfter c = need (rowFor c .after)
+
+unfoldable pub frontFor : Content → List ℕ → List ℕ
+frontFor c ds = numbersOf c ++ take (digitsBefore c) ds
+
+unfoldable pub backFor : Content → List ℕ → List ℕ
+backFor c ds = take (digitsAfter c) ds
+
+-- as much of what is lent as the content counts
+unfoldable pub bodyFor : Content → List ℕ → List ℕ
+bodyFor c body = take (countFor c body * need (rowFor c .each)) body
+
+-- ---- the packet's size, table, numbers and bytes
+unfoldable pub sizeFor : Fields → List ℕ → ℕ
+sizeFor f body = 77 + 12 * f .codes + size (contentLines (rowFor (f .content)) (countFor (f .content) body)) / 8
+
+unfoldable pub tableFor : Fields → List ℕ → List Line
+tableFor f body = packet (rowFor (f .content)) (f .kind) (sizeFor f body) (f .codes) (countFor (f .content) body)
+
+unfoldable pub numbersFor : Fields → List ℕ → List ℕ → List ℕ
+numbersFor f codes body =
+    codes ++ (frontFor (f .content) (f .digits) ++ (bodyFor (f .content) body ++ (backFor (f .content) (f .digits) ++ (f .time ∷ (f .certificate ++ f .signature)))))
+
+abbrev pub valuesFor : Fields → List ℕ → List ℕ → List (List ℕ)
+valuesFor f codes body = fill (tableFor f body) (numbersFor f codes body)
+
+unfoldable pub bytesFor : Fields → List ℕ → List ℕ → List ℕ
+bytesFor f codes body = bytes (encode (tableFor f body) (valuesFor f codes body))
+
+-- ---- the answer, in the order of paper 01
+-- 26: n, k, m or t is above 255, or is not that of what is lent; entries have as many numbers as their row
+abbrev pub lentBad : Sort → ℕ → ℕ → List ℕ → Bool
+lentBad sort.Fixed k w body = false
+lentBad sort.Counted k w body = not (leb k 255 && eqb (length body) (k * w))
+lentBad sort.Raw k w body = false
+lentBad sort.Unknown k w body = false
+
+unfoldable pub countBad : Fields → List ℕ → List ℕ → Bool
+countBad f codes body =
+    not (leb (f .codes) 255 && eqb (length codes) (f .codes * 23))
+    || lentBad (rowFor (f .content) .sort) (countFor (f .content) body) (need (rowFor (f .content) .each)) body
+
+-- 25: a digit above 9, in the lines or in the places of digits that the content doesn't use
+unfoldable pub digitBad : Fields → List ℕ → List ℕ → Bool
+digitBad f codes body = not (fine 25 (tableFor f body) (valuesFor f codes body)) || not (inside 0 9 (f .digits))
+
+-- 27: content that isn't of the type named; what could not be handed back: digits that the content doesn't use, a body for a content that has none;
+-- codes for type 1, whose receivers ignore them (000, 6.1.2.3); a field outside its range; no such day
+abbrev pub otherType : Fields → Bool
+otherType f = not (eqb (typeOf (formOf (f .kind))) (typeOf (formFor (f .content))))
+
+abbrev pub bodyLost : Sort → List ℕ → Bool
+bodyLost sort.Fixed body = not (eqb (length body) 0)
+bodyLost sort.Counted body = false
+bodyLost sort.Raw body = false
+bodyLost sort.Unknown body = false
+
+abbrev pub digitsLost : Content → List ℕ → Bool
+digitsLost c ds = not (inside 0 0 (drop (digitsBefore c + digitsAfter c) ds))
+
+unfoldable pub notTaken : Fields → List ℕ → List ℕ → Bool
+notTaken f codes body =
+    otherType f
+    || (bodyLost (rowFor (f .content) .sort) body
+    || (digitsLost (f .content) (f .digits)
+    || ((eqb (f .kind) 1 && not (eqb (f .codes) 0))
+    || (not (fine 27 (tableFor f body) (valuesFor f codes body)) || noSuchDay (f .content)))))
+
+abbrev pub writeCases : Fields → List ℕ → List ℕ → ℕ → List Case
+writeCases f codes body room =
+    (isUnknown (formOf (f .kind)), 23)
+    ∷ (countBad f codes body, 26)
+    ∷ (digitBad f codes body, 25)
+    ∷ (notTaken f codes body, 27)
+    ∷ (ltb 250 (sizeFor f body), 20)
+    ∷ (ltb room (sizeFor f body), 10)
+    ∷ []
+
+unfoldable pub writtenAnswer : Fields → List ℕ → List ℕ → ℕ → ℕ
+writtenAnswer f codes body room = first (writeCases f codes body room)
+
+-- ---- what is written: P bytes, or nothing
+abbrev pub writtenBy : ℕ → ℕ → Written
+writtenBy zero p = record { answer = 0; length = p }
+writtenBy (suc a) p = record { answer = suc a; length = 0 }
+
+unfoldable pub written : Fields → List ℕ → List ℕ → ℕ → Written
+written f codes body room = writtenBy (writtenAnswer f codes body room) (sizeFor f body)
+
+abbrev pub outputBy : ℕ → List ℕ → List ℕ → List ℕ
+outputBy zero xs out = xs ++ drop (length xs) out
+outputBy (suc a) xs out = out
+
+unfoldable pub outputOf : Fields → List ℕ → List ℕ → List ℕ → List ℕ
+outputOf f codes body out = outputBy (writtenAnswer f codes body (length out)) (bytesFor f codes body) out

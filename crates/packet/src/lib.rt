@@ -1,0 +1,223 @@
+// The packet of GY/T 390-2023, clause 6.1: what its fields are called, and its table of contents.
+mod days;
+mod rows;
+mod table;
+
+ghost use mathlib.Core.Path.{_≡_};
+ghost use Rattle.packet.specs.Table.{formOf, typeOf, rowOf, code, ending};
+ghost use Rattle.packet.specs.Shape.{Listed, Shaped};
+ghost use Rattle.packet.specs.Content.{noSuchDay};
+use format::Line;
+
+// The kinds of content (000, tables 3 to 6 and 13 to 18); Raw is carried unopened, Unknown refused.
+pub enum Form {
+    Frequencies,
+    Address,
+    Keep,
+    Clock,
+    Reset,
+    Factory,
+    Drill,
+    Text,
+    Command,
+    Hold,
+    Raw,
+    Unknown,
+}
+
+// Lines alone; lines, a count, a row as often as it says, lines; bytes, as many as there are; nothing known.
+pub enum Sort {
+    Fixed,
+    Counted,
+    Raw,
+    Unknown,
+}
+
+// The lines of a table, the first m of six.
+pub struct Lines {
+    pub m: usize,
+    pub all: [Line; 6],
+}
+
+// A row of the table of contents: lines, a row that is repeated, lines.
+pub struct Shape {
+    pub sort: Sort,
+    pub before: Lines,
+    pub each: Lines,
+    pub after: Lines,
+}
+
+// A typed content. Its digits stand beside it, in Fields, and its bytes or entries in what is lent.
+pub enum Content {
+    Raw,
+    Frequencies {
+        count: usize,
+    },
+    Address {
+        length: usize,
+    },
+    Keep {
+        on: u8,
+        period: u16,
+    },
+    Clock {
+        year: u16,
+        month: u8,
+        day: u8,
+        hour: u8,
+        minute: u8,
+        second: u8,
+    },
+    Reset {
+        change: u8,
+    },
+    Factory,
+    Drill {
+        action: u8,
+    },
+    Text {
+        kind: u8,
+        set: u8,
+        length: usize,
+    },
+    Command {
+        length: usize,
+    },
+    Hold {
+        serial: u8,
+    },
+}
+
+// The fields that every packet has, the opened content among them; codes is the count n.
+pub struct Fields {
+    pub kind: u8,
+    pub codes: usize,
+    pub content: Content,
+    pub digits: [u8; 35],
+    pub time: u32,
+    pub certificate: [u8; 12],
+    pub signature: [u8; 64],
+}
+
+// What a packet says: 23 digits a code, and for frequencies eight numbers an entry; 0 past the last.
+pub struct Opened {
+    pub answer: u8,
+    pub fields: Fields,
+    pub codes: [u8; 322],
+    pub entries: [u8; 272],
+}
+
+// The answer of a writer, and how many bytes it wrote.
+pub struct Written {
+    pub answer: u8,
+    pub length: usize,
+}
+
+// The kind of a type (000, table 2).
+pub fn form_of(t: u8) -> Form
+    ensures { λ r. ⌜ r ≡ formOf t ⌝ }
+{
+    match t {
+        0 => Form::Frequencies,
+        1 => Form::Address,
+        2 => Form::Keep,
+        3 => Form::Clock,
+        12 => Form::Reset,
+        13 => Form::Factory,
+        14 => Form::Drill,
+        15 => Form::Text,
+        16 => Form::Command,
+        21 => Form::Hold,
+        4..=8 => Form::Raw,
+        11 => Form::Raw,
+        22..=24 => Form::Raw,
+        _ => Form::Unknown,
+    }
+}
+
+// A type of the kind, by which kinds are compared.
+pub fn type_of(f: Form) -> u8
+    ensures { λ r. ⌜ r ≡ typeOf f ⌝ }
+{
+    match f {
+        Form::Frequencies => 0,
+        Form::Address => 1,
+        Form::Keep => 2,
+        Form::Clock => 3,
+        Form::Reset => 12,
+        Form::Factory => 13,
+        Form::Drill => 14,
+        Form::Text => 15,
+        Form::Command => 16,
+        Form::Hold => 21,
+        Form::Raw => 4,
+        Form::Unknown => 31,
+    }
+}
+
+// A resource code, and what follows the content.
+pub fn code_lines() -> Lines
+    ensures { λ r. ⌜ Listed r code ⌝ }
+{
+    rows::two_lines(rows::a_ones(4, 15), rows::a_digits(23))
+}
+
+pub fn ending_lines() -> Lines
+    ensures { λ r. ⌜ Listed r ending ⌝ }
+{
+    rows::three_lines(
+        rows::an_any(32, 4294967295),
+        rows::a_digits(12),
+        rows::an_octets(64),
+    )
+}
+
+// The row of a kind in the table of contents.
+pub fn row_of(f: Form) -> Shape
+    ensures { λ r. ⌜ Shaped r (rowOf f) ⌝ }
+{
+    match f {
+        Form::Frequencies => table::frequencies(),
+        Form::Address => table::address(),
+        Form::Keep => table::keep(),
+        Form::Clock => table::clock(),
+        Form::Reset => table::reset(),
+        Form::Factory => table::factory(),
+        Form::Drill => table::drill(),
+        Form::Text => table::text(),
+        Form::Command => table::command(),
+        Form::Hold => table::hold(),
+        Form::Raw => table::raw(),
+        Form::Unknown => table::unknown(),
+    }
+}
+
+// A clock that names a day which its month doesn't have.
+pub fn no_such_day(c: Content) -> bool
+    ensures { λ r. ⌜ r ≡ noSuchDay c ⌝ }
+{
+    match c {
+        Content::Raw => false,
+        Content::Frequencies { count: _ } => false,
+        Content::Address { length: _ } => false,
+        Content::Keep { on: _, period: _ } => false,
+        Content::Clock {
+            year,
+            month,
+            day,
+            hour: _,
+            minute: _,
+            second: _,
+        } => days::days_in(year, month) < day,
+        Content::Reset { change: _ } => false,
+        Content::Factory => false,
+        Content::Drill { action: _ } => false,
+        Content::Text {
+            kind: _,
+            set: _,
+            length: _,
+        } => false,
+        Content::Command { length: _ } => false,
+        Content::Hold { serial: _ } => false,
+    }
+}

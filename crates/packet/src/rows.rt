@@ -1,0 +1,180 @@
+// Lines, and rows of them, as the table of contents is written.
+ghost use mathlib.Core.Path.{_≡_};
+ghost use mathlib.Core.List.{[], _∷_};
+ghost use Prim.Native.Nat.{_-_, _^_};
+ghost use lib.ListN.{take};
+ghost use Rattle.format.specs.Format.{num, only, any, ones, digits, octets};
+ghost use Rattle.packet.specs.Shape.{Listed, Shaped};
+ghost use Rattle.packet.specs.Table.{fixed, counted};
+use crate::Lines;
+use crate::Shape;
+use crate::Sort;
+use format::Line;
+
+// A number of w bits, lo to hi.
+pub(crate) fn a_num(w: usize, lo: u32, hi: u32) -> Line
+    ensures { λ r. ⌜ r ≡ num w lo hi ⌝ }
+{
+    Line {
+        n: 1,
+        w: w,
+        lo: lo,
+        hi: hi,
+        other: 27,
+        free: true,
+    }
+}
+
+// A number of w bits that is always x.
+pub(crate) fn an_only(w: usize, x: u32) -> Line
+    ensures { λ r. ⌜ r ≡ only w x ⌝ }
+{
+    Line {
+        n: 1,
+        w: w,
+        lo: x,
+        hi: x,
+        other: 27,
+        free: false,
+    }
+}
+
+// Any number of w bits, whose greatest is x.
+pub(crate) fn an_any(w: usize, x: u32) -> Line
+    requires { ⌜ x ≡ 2 ^ w - 1 ⌝ }
+    ensures { λ r. ⌜ r ≡ any w ⌝ }
+{
+    Line {
+        n: 1,
+        w: w,
+        lo: 0,
+        hi: x,
+        other: 0,
+        free: true,
+    }
+}
+
+// w reserved bits, all 1, which are the number x.
+pub(crate) fn a_ones(w: usize, x: u32) -> Line
+    requires { ⌜ x ≡ 2 ^ w - 1 ⌝ }
+    ensures { λ r. ⌜ r ≡ ones w ⌝ }
+{
+    Line {
+        n: 1,
+        w: w,
+        lo: x,
+        hi: x,
+        other: 24,
+        free: false,
+    }
+}
+
+// n digits.
+pub(crate) fn a_digits(n: usize) -> Line
+    ensures { λ r. ⌜ r ≡ digits n ⌝ }
+{
+    Line {
+        n: n,
+        w: 4,
+        lo: 0,
+        hi: 9,
+        other: 25,
+        free: true,
+    }
+}
+
+// n bytes that mean nothing to us.
+pub(crate) fn an_octets(n: usize) -> Line
+    ensures { λ r. ⌜ r ≡ octets n ⌝ }
+{
+    Line {
+        n: n,
+        w: 8,
+        lo: 0,
+        hi: 255,
+        other: 0,
+        free: true,
+    }
+}
+
+pub(crate) fn no_lines() -> Lines
+    ensures { λ r. ⌜ Listed r [] ⌝ }
+{
+    let z = an_octets(0);
+    Lines {
+        m: 0,
+        all: [z, z, z, z, z, z],
+    }
+}
+
+pub(crate) fn one_line(a: Line) -> Lines
+    ensures { λ r. ⌜ Listed r (a ∷ []) ⌝ }
+{
+    Lines {
+        m: 1,
+        all: [a, a, a, a, a, a],
+    }
+}
+
+pub(crate) fn two_lines(a: Line, b: Line) -> Lines
+    ensures { λ r. ⌜ Listed r (a ∷ b ∷ []) ⌝ }
+{
+    Lines {
+        m: 2,
+        all: [a, b, b, b, b, b],
+    }
+}
+
+pub(crate) fn three_lines(a: Line, b: Line, c: Line) -> Lines
+    ensures { λ r. ⌜ Listed r (a ∷ b ∷ c ∷ []) ⌝ }
+{
+    Lines {
+        m: 3,
+        all: [a, b, c, c, c, c],
+    }
+}
+
+pub(crate) fn four_lines(a: Line, b: Line, c: Line, d: Line) -> Lines
+    ensures { λ r. ⌜ Listed r (a ∷ b ∷ c ∷ d ∷ []) ⌝ }
+{
+    Lines {
+        m: 4,
+        all: [a, b, c, d, d, d],
+    }
+}
+
+pub(crate) fn six_lines(a: Line, b: Line, c: Line, d: Line, e: Line, f: Line) -> Lines
+    ensures { λ r. ⌜ Listed r (a ∷ b ∷ c ∷ d ∷ e ∷ f ∷ []) ⌝ }
+{
+    Lines {
+        m: 6,
+        all: [a, b, c, d, e, f],
+    }
+}
+
+// A content of these lines alone.
+pub(crate) fn fixed_row(ls: Lines) -> Shape
+    requires { ⌜ Listed ls (take (ls .m) (ls .all)) ⌝ }
+    ensures { λ r. ⌜ Shaped r (fixed (take (ls .m) (ls .all))) ⌝ }
+{
+    let none = no_lines();
+    Shape {
+        sort: Sort::Fixed,
+        before: ls,
+        each: none,
+        after: none,
+    }
+}
+
+// A content with a count: lines, the count, a row as often as it says, lines.
+pub(crate) fn counted_row(ls: Lines, row: Lines, rest: Lines) -> Shape
+    requires { ⌜ Listed ls (take (ls .m) (ls .all)) × Listed row (take (row .m) (row .all)) × Listed rest (take (rest .m) (rest .all)) ⌝ }
+    ensures { λ r. ⌜ Shaped r (counted (take (ls .m) (ls .all)) (take (row .m) (row .all)) (take (rest .m) (rest .all))) ⌝ }
+{
+    Shape {
+        sort: Sort::Counted,
+        before: ls,
+        each: row,
+        after: rest,
+    }
+}

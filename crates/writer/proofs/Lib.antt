@@ -1,0 +1,9 @@
+pub mod Line
+pub mod Lines
+pub mod Rows
+pub mod Front
+pub mod Count
+pub mod Contents
+pub mod Shapes
+pub mod Whole
+pub mod Together
