@@ -82,17 +82,18 @@ module _ (f : List ℕ) where
     fields-are = if-yes (fieldsOf f) noHeading (eq-eqb _ _ e)
 
     -- every case of the list is passed
-    passed : (eqb (length f) 8 ≡ true) × (reserved (levelOf f) ≡ false) × (outside (totalOf f) (numberOf f) ≡ false)
+    passed : (eqb (length f) 8 ≡ true) × (fixed f ≡ true) × (reserved (levelOf f) ≡ false) × (outside (totalOf f) (numberOf f) ≡ false)
     unfolding refusals none
     passed =
         let n = none-refused e in
         let a = and-left (not (not (eqb (length f) 8))) _ n in
         let n₁ = and-right (not (not (eqb (length f) 8))) _ n in
+        let b = and-left (not (not (fixed f))) _ n₁ in
         let n₂ = and-right (not (not (fixed f))) _ n₁ in
         let c = and-left (not (reserved (levelOf f))) _ n₂ in
         let n₃ = and-right (not (reserved (levelOf f))) _ n₂ in
         let d = and-left (not (outside (totalOf f) (numberOf f))) _ n₃ in
-        (twice (eqb (length f) 8) a, not-true _ c, not-true _ d)
+        (twice (eqb (length f) 8) a, twice (fixed f) b, not-true _ c, not-true _ d)
       where
         twice : (b : Bool) → not (not b) ≡ true → b ≡ true
         twice true q = refl
@@ -101,11 +102,14 @@ module _ (f : List ℕ) where
     pub eight-bytes : length f ≡ 8
     eight-bytes = eqb-true _ _ (passed .0)
 
+    pub is-fixed : fixed f ≡ true
+    is-fixed = passed .1
+
     pub bounds : Bounds (fieldsOf f)
     unfolding fieldsOf
     bounds =
-        let l = level-bounds (levelOf f) (passed .1) in
-        let n = number-below-total (totalOf f) (numberOf f) (passed .2) in
+        let l = level-bounds (levelOf f) (passed .2) in
+        let n = number-below-total (totalOf f) (numberOf f) (passed .3) in
         let v : versionOf f < 32 = at-small f 3 5 5 (omega arith) in
         let t : totalOf f .0 < 64 = at-small f 8 6 6 (omega arith) in
         record {

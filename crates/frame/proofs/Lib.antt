@@ -1,3 +1,4 @@
 pub mod Fields
 pub mod Back
 pub mod Accepted
+pub mod Alike

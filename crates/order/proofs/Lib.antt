@@ -10,3 +10,4 @@ pub mod Offering
 pub mod Copying
 pub mod Theorems
 pub mod Declared
+pub mod Repeats
