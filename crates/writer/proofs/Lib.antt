@@ -7,3 +7,6 @@ pub mod Contents
 pub mod Shapes
 pub mod Whole
 pub mod Together
+pub mod Inside
+pub mod Fine
+pub mod Rules

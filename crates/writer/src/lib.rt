@@ -2,3 +2,4 @@
 mod content;
 mod packets;
 mod puts;
+mod tests;

@@ -6,7 +6,7 @@ use Rattle.packet.specs.Content.{countFor}
 use Rattle.writer.specs.Puts.{After}
 use Rattle.writer.specs.Parts.{frontBits, frontSize}
 use Rattle.writer.proofs.Contents.{count-same}
-use Rattle.writer.proofs.Whole.{content-put, front-small, body-small}
+use Rattle.writer.proofs.Whole.{content-put, bodied, front-small, body-small}
 use borrow.Author.Needs.{needs}
 use Rattle.writer.proofs.content.put_content.Statement.{statement}
 use Rattle.writer.proofs.content.put_content.Tie as tie
@@ -48,7 +48,7 @@ returns c =
     let e : c .before .before .before .before .before .before .before .before .before .before .before .before .count-for .result ≡ countFor (x .c) (x .body .now) = c .before .before .before .before .before .before .before .before .before .before .before .before .count-for .ensures ∙ count-same (x .c) (x .body .now) in
     let a : After (x .out .now) (c .before .before .before .before .before .before .before .before .before .before .put-front .last .0) (x .p) (frontBits (x .c) (x .digits) (countFor (x .c) (x .body .now))) (c .before .before .before .before .before .before .before .before .before .before .put-front .result) (frontSize (x .c) (countFor (x .c) (x .body .now))) =
     subst (λ (k : ℕ). After (x .out .now) (c .before .before .before .before .before .before .before .before .before .before .put-front .last .0) (x .p) (frontBits (x .c) (x .digits) k) (c .before .before .before .before .before .before .before .before .before .before .put-front .result) (frontSize (x .c) k)) e (c .before .before .before .before .before .before .before .before .before .before .put-front .ensures) in
-    content-put (x .c) (x .digits) (x .body .now) d (c .before .before .before .before .before .before .before .before .before .before .before .before .before .before .before .pre .0) _ _ _ _ _ _ _ _ a (c .before .before .before .before .before .before .put-body .ensures) (c .before .before .put-back .ensures)
+    content-put (x .c) (x .digits) (x .body .now) d (bodied (x .c) (x .body .now) (c .before .before .before .before .before .before .before .before .before .before .before .before .before .before .before .pre .0)) _ _ _ _ _ _ _ _ a (c .before .before .before .before .before .before .put-body .ensures) (c .before .before .put-back .ensures)
 
 pub put-content-spec : {M : Type 1} → statement M
 put-content-spec =

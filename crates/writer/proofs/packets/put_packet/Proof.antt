@@ -39,7 +39,7 @@ put-rows-requires c κs =
     let h = c .before .before .before .before .before .before .before .before .before .before .before .before .pre .0 in
     let n = codes-few (c .before .before .before .before .before .before .before .before .before .before .before .before .args .f) (c .before .before .before .before .before .before .before .before .before .before .before .before .args .body .now) (h .small) in
     let q = c .before .before .before .put-head .ensures .place in
-    can-put-rows _ _ (c .before .before .before .before .before .code-lines .ensures) code-sound _ _ _ _ code-need (omega arith) (omega (arith, code-size)) (omega arith) (h .coded) (omega arith)
+    can-put-rows _ _ (c .before .before .before .before .before .code-lines .ensures) code-sound _ _ _ _ code-need (omega arith) (omega (arith, code-size)) (omega arith) (h .counts .coded) (omega arith)
 
 -- src/packets.rt:56:9
 put-content-requires : tie.Need-put-content-requires
@@ -72,7 +72,7 @@ returns c =
     let lc : length (f .certificate) ≡ 12 = search (needs, c .before .before .before .before .before .before .before .before .before .before .before .before .before .before .before .before .before .before .before .before .before .before .before .good) in
     let ls : length (f .signature) ≡ 64 = search (needs, c .before .before .before .before .before .before .before .before .before .before .before .before .before .before .before .before .before .before .before .before .before .before .before .good) in
     let h = subst (λ (s : ℕ). After (x .out .now) (c .before .before .before .before .before .before .before .before .before .before .before .before .before .before .put-head .last .0) 0 (headBits (f .kind) s (f .codes)) (c .before .before .before .before .before .before .before .before .before .before .before .before .before .before .put-head .result) 24) (c .before .before .before .before .before .before .before .before .before .before .before .before .before .before .before .before .before .before .before .before .before .before .before .pre .1) (c .before .before .before .before .before .before .before .before .before .before .before .before .before .before .put-head .ensures) in
-    packet-put f (x .codes .now) (x .body .now) (c .before .before .before .before .before .before .before .before .before .before .before .before .before .before .before .before .before .before .before .before .before .before .before .pre .0) d lc ls _ (c .before .before .before .before .before .before .before .before .before .before .before .before .before .before .put-head .last .0) (c .before .before .before .before .before .before .before .before .before .before .put-rows .last .0) (c .before .before .before .before .before .before .put-content .last .0) _ _ _ _ _ h
+    packet-put f (x .codes .now) (x .body .now) (c .before .before .before .before .before .before .before .before .before .before .before .before .before .before .before .before .before .before .before .before .before .before .before .pre .0 .counts) d lc ls _ (c .before .before .before .before .before .before .before .before .before .before .before .before .before .before .put-head .last .0) (c .before .before .before .before .before .before .before .before .before .before .put-rows .last .0) (c .before .before .before .before .before .before .put-content .last .0) _ _ _ _ _ h
     (have-put-rows _ _ (c .before .before .before .before .before .before .before .before .before .before .before .before .before .before .before .before .code-lines .ensures) _ _ _ _ _ _ (c .before .before .before .before .before .before .before .before .before .before .put-rows .ensures)) (c .before .before .before .before .before .before .put-content .ensures) (c .before .before .put-ending .ensures)
 
 pub put-packet-spec : {M : Type 1} → statement M
