@@ -1,29 +1,24 @@
 -- What the answers 25 and 27 ask of a packet's table, part by part. Assumes nothing.
-use mathlib.Core.Path.{_≡_, refl, sym, ap, ap₂, _∙_}
-use mathlib.Core.Bool.{Bool, true, false, cond, not, _&&_, _||_, and-true}
+use mathlib.Core.Path.{_≡_, refl, sym, ap, _∙_}
+use mathlib.Core.Bool.{Bool, true, false, _&&_}
 use mathlib.Core.List.{List, [], _∷_, _++_}
-use Prim.Native.Nat.{ℕ, zero, suc, _+_, _*_, _<_, _≤_}
-use native.Mathlib.Nat.{suc-mul}
-use native.Mathlib.Omega.{arith}
-use lib.Dec.{leb, eqb}
-use lib.ListN.{length, take, drop, length-append, length-drop, take-append-drop}
-use lib.Seq.{take-at, drop-at, length-take-le, take-all}
-use Rattle.laws.specs.Scan.{all}
-use Rattle.laws.proofs.Cases.{and-yes, and-no, and-left, and-both}
+use Prim.Native.Nat.{ℕ, _*_}
+use lib.Dec.{leb}
+use lib.ListN.{length, take, drop, take-append-drop}
+use Rattle.laws.proofs.Cases.{and-yes, and-left}
 use Rattle.format.specs.declared.Line.{Line}
 use Rattle.format.specs.Format.{just, need, fill, times, inside, fine}
-use Rattle.format.proofs.Tables.{fill-join, fine-join, length-fill, apart, apart-fine, all-times, need-times}
+use Rattle.format.proofs.Tables.{fill-join, fine-join, length-fill, need-times}
 use Rattle.packet.specs.declared.Sort.{Sort}
 use Rattle.packet.specs.declared.Sort.the-variants as sort
 use Rattle.packet.specs.declared.Content.{Content}
 use Rattle.packet.specs.declared.Content.the-variants as content
 use Rattle.packet.specs.declared.Fields.{Fields}
-use Rattle.packet.specs.Table.{code, ending, packet, contentLines, countLine, typeOf}
-use Rattle.packet.specs.Content.{formFor, countFor}
-use Rattle.packet.specs.Writing.{rowFor, frontFor, backFor, bodyFor, sizeFor, tableFor, numbersFor, valuesFor, digitsBefore, digitsAfter, digitBad, notTaken}
-use Rattle.writer.specs.Parts.{linesFor, Bodied, Counts}
-use Rattle.writer.specs.Ranges.{rangeFine}
-use Rattle.writer.proofs.Contents.{length-front, length-back}
+use Rattle.packet.specs.Table.{code, ending, packet, contentLines, countLine}
+use Rattle.packet.specs.Content.{countFor}
+use Rattle.packet.specs.Writing.{rowFor, frontFor, backFor, bodyFor, tableFor, valuesFor}
+use Rattle.writer.specs.Parts.{linesFor, Counts}
+use Rattle.writer.proofs.Contents.{length-front}
 use Rattle.writer.proofs.Whole.{count-needs}
 use Rattle.writer.proofs.Together.{code-need, middle-long, in-order}
 

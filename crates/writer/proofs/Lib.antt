@@ -10,3 +10,4 @@ pub mod Together
 pub mod Inside
 pub mod Fine
 pub mod Rules
+pub mod Digits

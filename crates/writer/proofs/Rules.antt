@@ -1,24 +1,25 @@
 -- What is left of those parts to test: digits, ranges and entries. Assumes nothing.
-use mathlib.Core.Path.{_≡_, refl, sym, ap, ap₂, _∙_}
-use mathlib.Core.Bool.{Bool, true, false, cond, not, _&&_, _||_, and-true}
+use mathlib.Core.Path.{_≡_, refl, sym, ap, ap₂, _∙_, subst}
+use mathlib.Core.Logic.{_⊎_, inl, inr}
+use mathlib.Core.Bool.{true, _&&_, and-true}
 use mathlib.Core.List.{List, [], _∷_, _++_}
-use Prim.Native.Nat.{ℕ, zero, suc, _+_, _*_, _<_, _≤_}
+use Prim.Native.Nat.{ℕ, zero, suc, _*_}
 use native.Mathlib.Nat.{suc-mul}
 use native.Mathlib.Omega.{arith}
-use lib.Dec.{leb, eqb}
 use lib.ListN.{length, take, drop, length-drop, take-append-drop}
-use lib.Seq.{take-at, drop-at, length-take-le, take-all}
+use lib.Seq.{take-at, length-take-le, take-all}
 use Rattle.laws.specs.Scan.{all}
-use Rattle.laws.proofs.Cases.{and-yes}
-use Rattle.format.specs.declared.Line.{Line}
 use Rattle.format.specs.Format.{need, fill, times, inside, fine}
 use Rattle.format.proofs.Tables.{apart, apart-fine, all-times}
 use Rattle.packet.specs.declared.Content.{Content}
 use Rattle.packet.specs.declared.Content.the-variants as content
-use Rattle.packet.specs.Table.{code, ending, typeOf}
-use Rattle.packet.specs.Content.{formFor}
-use Rattle.packet.specs.Writing.{rowFor, frontFor, backFor}
+use Rattle.packet.specs.declared.Form.the-variants.{Frequencies}
+use Rattle.packet.specs.Table.{code, ending, typeOf, rowOf}
+use Rattle.packet.specs.Content.{formFor, countFor}
+use Rattle.packet.specs.Writing.{rowFor, frontFor, backFor, bodyFor}
+use Rattle.writer.specs.Parts.{Lent}
 use Rattle.writer.specs.Ranges.{rangeFine}
+use Rattle.writer.proofs.Contents.{body-whole, entries}
 use Rattle.writer.proofs.Fine.{Class, digit, range, two-fine, inside-append, inside-take}
 use Rattle.writer.proofs.Together.{code-need}
 
@@ -142,3 +143,12 @@ ending-digits time certificate signature h = rw (take-at certificate signature 1
 pub ending-range : (vs : List (List ℕ)) → fine 27 ending vs ≡ true
 unfolding all
 ending-range vs = apart-fine 27 ending vs refl
+
+-- ---- an answer that is one of the two, and the entries as the code tests them
+pub class-of : (a : ℕ) → (a ≡ 25) ⊎ (a ≡ 27) → Class a
+class-of a (inl e) = subst Class (sym e) digit
+class-of a (inr e) = subst Class (sym e) range
+
+pub entries-are : (a : ℕ) (c : Content) (body : List ℕ) (k : ℕ) → Lent c body → typeOf (formFor c) ≡ 0 → k ≡ countFor c body
+    → fine a (times k (rowOf Frequencies .each)) (fill (times k (rowOf Frequencies .each)) body) ≡ fine a (times (countFor c body) (rowFor c .each)) (fill (times (countFor c body) (rowFor c .each)) (bodyFor c body))
+entries-are a c body k h q e = rw (body-whole c body h, ← e, entries c q)

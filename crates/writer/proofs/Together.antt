@@ -1,10 +1,10 @@
 -- A packet is its head, codes, content and ending, one behind the other. Assumes nothing.
-use mathlib.Core.Path.{_≡_, refl, sym, ap, ap₂, _∙_, subst}
-use mathlib.Core.Bool.{Bool, true}
-use mathlib.Core.List.{List, [], _∷_, _++_, append-assoc, append-nil}
-use Prim.Native.Nat.{ℕ, suc, _+_, _-_, _*_, _/_, _<_, _≤_}
+use mathlib.Core.Path.{_≡_, refl, sym, ap, _∙_}
+use mathlib.Core.Bool.{true}
+use mathlib.Core.List.{List, _∷_, _++_, append-assoc, append-nil}
+use Prim.Native.Nat.{ℕ, _-_, _*_, _≤_}
 use native.Mathlib.Omega.{arith}
-use lib.ListN.{length, take, drop, replicate, length-append}
+use lib.ListN.{length, replicate, length-append}
 use lib.Seq.{sets, take-at, drop-at, take-all}
 use Rattle.laws.specs.Bits.{bits, bitsOf, spread}
 use Rattle.laws.specs.Scan.{all}
@@ -18,7 +18,7 @@ use Rattle.packet.specs.Table.{code, ending, packet, contentLines, countLine}
 use Rattle.packet.specs.Content.{formFor, countFor}
 use Rattle.packet.specs.Writing.{rowFor, frontFor, backFor, bodyFor, sizeFor, tableFor, numbersFor, valuesFor}
 use Rattle.writer.specs.Puts.{sound, After}
-use Rattle.writer.specs.Parts.{frontSize, bodySize, linesFor, contentBits, contentSize, headBits, endingBits, Lent, Counts}
+use Rattle.writer.specs.Parts.{linesFor, contentBits, contentSize, headBits, endingBits, Lent, Counts}
 use Rattle.writer.proofs.Rows.{encode-size}
 use Rattle.writer.proofs.Contents.{small, length-front, length-back}
 use Rattle.writer.proofs.Shapes.{then-put}

@@ -1,17 +1,15 @@
 -- A content and a packet are their parts, one behind the other. Assumes nothing.
 use mathlib.Core.Path.{_≡_, refl, sym, ap, ap₂, _∙_}
-use mathlib.Core.Bool.{Bool, true}
-use mathlib.Core.List.{List, [], _∷_, _++_, append-assoc, append-nil}
-use Prim.Native.Nat.{ℕ, suc, _+_, _-_, _*_, _/_, _<_, _≤_}
+use mathlib.Core.List.{List, [], _++_, append-assoc}
+use Prim.Native.Nat.{ℕ, _+_, _-_, _≤_}
 use native.Mathlib.Nat.{le-trans, mul-le-mul-left}
 use native.Mathlib.Omega.{arith}
-use lib.ListN.{length, take, length-append}
-use lib.Seq.{sets}
+use lib.ListN.{length, length-append}
 use Rattle.laws.specs.Bits.{bits, bitsOf, spread}
 use Rattle.laws.proofs.Bits.{length-bitsOf, length-spread}
 use Rattle.format.specs.declared.Line.{Line}
-use Rattle.format.specs.Format.{just, size, need, encode, fill, times}
-use Rattle.format.proofs.Tables.{fill-join, encode-join, length-fill, size-append, size-times, need-append, need-times}
+use Rattle.format.specs.Format.{size, need, encode, fill, times}
+use Rattle.format.proofs.Tables.{fill-join, encode-join, length-fill, size-append, size-times, need-times}
 use Rattle.packet.specs.declared.Sort.{Sort}
 use Rattle.packet.specs.declared.Sort.the-variants as sort
 use Rattle.packet.specs.declared.Content.{Content}
@@ -19,7 +17,7 @@ use Rattle.packet.specs.Table.{countLine, contentLines}
 use Rattle.packet.specs.Content.{formFor, countFor}
 use Rattle.packet.specs.Writing.{rowFor, frontFor, backFor, bodyFor}
 use Rattle.writer.specs.Puts.{After}
-use Rattle.writer.specs.Parts.{frontBits, frontSize, bodyBits, bodySize, backBits, linesFor, contentBits, contentSize, headBits, endingBits, Lent, Bodied}
+use Rattle.writer.specs.Parts.{frontBits, frontSize, bodyBits, bodySize, backBits, contentBits, contentSize, headBits, endingBits, Lent, Bodied}
 use Rattle.writer.proofs.Rows.{encode-size}
 use Rattle.writer.proofs.Contents.{small, length-front, body-whole}
 use Rattle.writer.proofs.Shapes.{then-put}

@@ -10,37 +10,25 @@ use Rattle.writer.proofs.Whole.{content-put, bodied, front-small, body-
 use borrow.Author.Needs.{needs}
 use Rattle.writer.proofs.content.put_content.Statement.{statement}
 use Rattle.writer.proofs.content.put_content.Tie as tie
-use Rattle.writer.proofs.content.put_content.Reads as reads
-use Rattle.writer.proofs.content.put_content.Lts as lts
-use Rattle.writer.proofs.content.count_for.Reads as count-for-reads
-use Rattle.writer.proofs.content.put_back.Reads as put-back-reads
-use Rattle.writer.proofs.content.put_body.Reads as put-body-reads
-use Rattle.writer.proofs.content.put_front.Reads as put-front-reads
 
--- src/content.rt:228:9
 count-for-requires : tie.Need-count-for-requires
 count-for-requires c κs = search needs
 
--- src/content.rt:229:9
 put-front-requires : tie.Need-put-front-requires
 put-front-requires c κs =
     let e = c .before .count-for .ensures ∙ count-same (c .before .before .before .before .args .c) (c .before .before .before .before .args .body .now) in
     (omega (arith, c .before .before .before .before .pre .0 .few), omega (arith, c .before .before .before .before .pre .1))
 
--- src/content.rt:230:9
 put-body-requires : tie.Need-put-body-requires
 put-body-requires c κs = (c .before .before .before .before .before .before .before .before .pre .0, omega (arith, c .before .before .before .put-front .ensures .place, front-small (c .before .before .before .before .before .before .before .before .args .c) (c .before .before .before .before .before .count-for .result), c .before .before .before .before .before .before .before .before .pre .1))
 
--- src/content.rt:231:5
 put-back-requires : tie.Need-put-back-requires
 put-back-requires c κs =
     omega (arith, c .before .before .before .put-body .ensures .place, c .before .before .before .before .before .before .before .put-front .ensures .place, front-small (c .before .before .before .before .before .before .before .before .before .before .before .before .args .c) (c .before .before .before .before .before .before .before .before .before .count-for .result), body-small (c .before .before .before .before .before .before .before .before .before .before .before .before .args .c) (c .before .before .before .before .before .before .before .before .before .before .before .before .args .body .now) (c .before .before .before .before .before .before .before .before .before .before .before .before .pre .0), c .before .before .before .before .before .before .before .before .before .before .before .before .pre .1)
 
--- src/content.rt:218:1
 same-length : tie.Need-same-length
 same-length c = search needs
 
--- src/content.rt:218:1
 returns : tie.Need-returns
 returns c =
     let x = c .before .before .before .before .before .before .before .before .before .before .before .before .before .before .before .args in
