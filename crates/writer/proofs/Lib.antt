@@ -11,3 +11,4 @@ pub mod Inside
 pub mod Fine
 pub mod Rules
 pub mod Digits
+pub mod Taken

@@ -1,11 +1,16 @@
 -- The ranges of a content's numbers, one by one: what answer 27 asks of the first lines of its row.
-use mathlib.Core.Bool.{Bool, true, false, not, _&&_}
+use mathlib.Core.Bool.{Bool, true, false, not, _&&_, _||_}
+use mathlib.Core.List.{List}
 use Prim.Native.Nat.{ℕ, _+_, _*_}
 use lib.Dec.{leb, eqb}
+use Rattle.format.specs.Format.{fine, fill, times}
 use Rattle.packet.specs.declared.Sort.{Sort}
 use Rattle.packet.specs.declared.Sort.the-variants as sort
 use Rattle.packet.specs.declared.Content.{Content}
 use Rattle.packet.specs.declared.Content.the-variants as content
+use Rattle.packet.specs.declared.Fields.{Fields}
+use Rattle.packet.specs.Content.{countFor}
+use Rattle.packet.specs.Writing.{rowFor, bodyFor, otherType, bodyLost, digitsLost}
 
 abbrev pub within : ℕ → ℕ → ℕ → Bool
 within x lo hi = leb lo x && leb x hi
@@ -64,3 +69,11 @@ bytesOf (content.Drill action) lent = 19
 bytesOf (content.Text kind set t) lent = 20 + t
 bytesOf (content.Command k) lent = 1 + k
 bytesOf (content.Hold serial) lent = 2
+
+-- ---- answer 27, in two parts: what could not be handed back, and what is repeated
+unfoldable pub somethingLost : Fields → List ℕ → Bool
+somethingLost f body =
+    otherType f || (bodyLost (rowFor (f .content) .sort) body || (digitsLost (f .content) (f .digits) || (eqb (f .kind) 1 && not (eqb (f .codes) 0))))
+
+abbrev pub rowsFine : ℕ → Content → List ℕ → Bool
+rowsFine a c body = fine a (times (countFor c body) (rowFor c .each)) (fill (times (countFor c body) (rowFor c .each)) (bodyFor c body))

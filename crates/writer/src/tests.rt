@@ -6,12 +6,12 @@ ghost use lib.ListN.{length, drop};
 ghost use Rattle.format.specs.Format.{inside, fine, fill, times};
 ghost use Rattle.packet.specs.declared.Form.the-variants as form;
 ghost use Rattle.packet.specs.Table.{rowOf, typeOf};
-ghost use Rattle.packet.specs.Content.{formFor, countFor};
+ghost use Rattle.packet.specs.Content.{formFor, countFor, noSuchDay};
 ghost use Rattle.packet.specs.Writing.{rowFor, bodyFor, digitsBefore, digitsAfter, digitsLost, countBad, digitBad, notTaken, sizeFor, writtenAnswer};
 ghost use lib.Dec.{leb, eqb};
 ghost use mathlib.Core.Logic.{_⊎_};
 ghost use Rattle.writer.specs.Parts.{Lent, Bodied, Counts};
-ghost use Rattle.writer.specs.Ranges.{clockFine, rangeFine, lostOf, badOf, bytesOf};
+ghost use Rattle.writer.specs.Ranges.{clockFine, rangeFine, lostOf, badOf, bytesOf, somethingLost, rowsFine};
 ghost use Rattle.writer.specs.Puts.{countOf};
 use crate::content;
 use packet::Content;
@@ -280,4 +280,71 @@ fn content_bytes(c: Content, lent: usize) -> usize
         Content::Command { length } => 1 + length,
         Content::Hold { serial: _ } => 2,
     }
+}
+
+// n, k, m or t is above 255, or not that of what is lent.
+fn counts_bad(f: Fields, codes: &[u8], body: &[u8]) -> bool
+    ensures { λ r. ⌜ r ≡ countBad f (now (codes .entry)) (now (body .entry)) ⌝ }
+{
+    let c = f.content;
+    let n = f.codes;
+    if n > 255 {
+        return true;
+    }
+    if codes.len() != n * 23 {
+        return true;
+    }
+    lent_bad(c, body.len())
+}
+
+// Codes for type 1, whose receivers ignore them.
+fn codes_lost(kind: u8, codes: usize) -> bool
+    ensures { λ r. ⌜ r ≡ (eqb kind 1 && not (eqb codes 0)) ⌝ }
+{
+    if kind == 1 { codes != 0 } else { false }
+}
+
+// Content of the type named, with nothing beside it that could not be handed back.
+fn nothing_lost(f: Fields, body: &[u8]) -> bool
+    ensures { λ r. ⌜ r ≡ not (somethingLost f (now (body .entry))) ⌝ }
+{
+    let c = f.content;
+    let digits = f.digits;
+    let named = packet::type_of(packet::form_of(f.kind));
+    if named != packet::type_of(content::form_for(c)) {
+        return false;
+    }
+    if body_lost(c, body.len()) {
+        return false;
+    }
+    if !digits_kept(c, digits) {
+        return false;
+    }
+    !codes_lost(f.kind, f.codes)
+}
+
+// Every number is in its range, and the day is one that its month has.
+fn numbers_fine(c: Content, body: &[u8]) -> bool
+    requires { ⌜ Bodied c (now body) × (typeOf (formFor c) ≡ 0 → Lent c (now body)) ⌝ }
+    ensures { λ r. ⌜ r ≡ ((rangeFine c && rowsFine 27 c (now (body .entry))) && not (noSuchDay c)) ⌝ }
+{
+    if !range_fine(c) {
+        return false;
+    }
+    if !body_fine(27, c, body) {
+        return false;
+    }
+    !packet::no_such_day(c)
+}
+
+// All that answer 27 asks.
+fn content_taken(f: Fields, codes: &[u8], body: &[u8]) -> bool
+    requires { ⌜ Counts f (now codes) (now body) × (typeOf (formFor (f .content)) ≡ 0 → Lent (f .content) (now body)) ⌝ }
+    ensures { λ r. ⌜ r ≡ not (notTaken f (now (codes .entry)) (now (body .entry))) ⌝ }
+{
+    let c = f.content;
+    if !nothing_lost(f, body) {
+        return false;
+    }
+    numbers_fine(c, body)
 }
