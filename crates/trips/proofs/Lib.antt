@@ -1,0 +1,5 @@
+pub mod Parts
+pub mod Fitting
+pub mod Contents
+pub mod Octets
+pub mod There
