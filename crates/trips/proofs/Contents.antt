@@ -1,29 +1,28 @@
 -- What holds of each kind of content, a clause a kind. Assumes nothing.
-use mathlib.Core.Path.{_≡_, refl, sym, ap, ap₂, _∙_}
+use mathlib.Core.Path.{_≡_, refl}
 use mathlib.Core.Logic.{_⊎_, inl, inr}
-use mathlib.Core.List.{List, [], _∷_, _++_, append-nil}
-use mathlib.Core.Bool.{Bool, true, false, not, _&&_, _||_, cond}
-use Prim.Native.Nat.{ℕ, zero, suc, _+_, _*_, _-_, _/_, _%_, _<_, _≤_}
+use mathlib.Core.List.{List, [], _∷_, _++_}
+use mathlib.Core.Bool.{true, false, not, _&&_}
+use Prim.Native.Nat.{ℕ, _+_, _*_, _%_, _≤_}
 use native.Mathlib.Omega.{arith}
-use lib.ListN.{length, take, drop, getD, replicate}
-use lib.Dec.{leb, ltb, eqb}
+use lib.ListN.{length}
+use lib.Dec.{leb}
 use Rattle.laws.specs.Scan.{all}
-use Rattle.format.specs.declared.Line.{Line}
 use Rattle.laws.specs.Bits.{at, run}
 use Rattle.laws.proofs.Cases.{and-left, and-both}
 use borrow.Author.Tests.{leb-true}
 use native.Mathlib.Nat.{le-antisymm}
-use Rattle.format.specs.Format.{just, octets, size, need, decode, inside, fine, flat}
+use Rattle.format.specs.Format.{just, octets, size, need, decode, inside, fine}
 use Rattle.format.proofs.Tables.{given, settled}
 use Rattle.packet.specs.declared.Form.{Form}
 use Rattle.packet.specs.declared.Form.the-variants.{Frequencies, Address, Keep, Clock, Reset, Factory, Drill, Text, Command, Hold, Raw, Unknown}
 use Rattle.packet.specs.declared.Content.{Content}
 use Rattle.packet.specs.declared.Content.the-variants as content
-use Rattle.packet.specs.Table.{Row, rowOf, countLine, countIn, contentLines}
+use Rattle.packet.specs.Table.{rowOf, countLine, countIn, contentLines}
 use Rattle.trips.proofs.Parts.{content-size}
 use Rattle.packet.specs.Content.{contentOf, formFor, numbersOf, numbersIn, countFor}
 use Rattle.packet.specs.Reading.{partAt, hasEntries}
-use Rattle.packet.specs.Writing.{rowFor, digitsBefore, digitsAfter, frontFor, backFor}
+use Rattle.packet.specs.Writing.{rowFor, digitsBefore, digitsAfter}
 use Rattle.trips.proofs.Fitting.{tight}
 
 -- the lines of a row: each has a width for its numbers, those of 24 and 26 are the table's, and a line that is not free is settled

@@ -1,17 +1,17 @@
 -- Values without a fault fit the bits of their lines; lists cut at the same place. Assumes nothing.
-use mathlib.Core.Path.{_≡_, refl, sym, ap, ap₂, _∙_}
+use mathlib.Core.Path.{_≡_, refl, sym, ap, _∙_}
 use mathlib.Core.List.{List, [], _∷_, _++_}
-use mathlib.Core.Bool.{Bool, true, false, not, _&&_, _||_, cond, true≢false}
-use Prim.Native.Nat.{ℕ, zero, suc, _+_, _*_, _-_, _^_, _<_, _≤_}
+use mathlib.Core.Bool.{Bool, true, false, _&&_, _||_, cond, true≢false}
+use Prim.Native.Nat.{ℕ, zero, suc, _^_, _<_}
 use native.Mathlib.Omega.{arith}
-use lib.ListN.{length, take, drop, getD, replicate, length-drop, length-replicate}
+use lib.ListN.{length, take, drop, replicate, length-drop, length-replicate}
 use lib.Seq.{length-take-le, take-at, drop-at}
 use lib.Dec.{leb, ltb, eqb}
 use borrow.Author.Tests.{leb-true, ltb-true}
 use Rattle.laws.specs.Scan.{all}
 use Rattle.laws.specs.Refusals.{Case, first}
 use Rattle.laws.proofs.Bits.{Under}
-use Rattle.laws.proofs.Cases.{and-both, if-yes, if-no}
+use Rattle.laws.proofs.Cases.{and-both, if-yes}
 use Rattle.format.specs.declared.Line.{Line}
 use Rattle.format.specs.Format.{need, own, fill, inside, lineOk, fine}
 use Rattle.format.proofs.Round.{Fits, none, line}

@@ -3,3 +3,5 @@ pub mod Fitting
 pub mod Contents
 pub mod Octets
 pub mod There
+pub mod Back
+pub mod Answers

@@ -1,14 +1,13 @@
 -- Bytes of a packet as the numbers of its lines of one byte. Assumes nothing.
 use mathlib.Core.Path.{_≡_, refl, sym, ap, ap₂, _∙_}
-use mathlib.Core.List.{List, [], _∷_, _++_, append-assoc, append-nil}
-use Prim.Native.Nat.{ℕ, zero, suc, _+_, _*_, _-_, _^_, _<_, _≤_}
+use mathlib.Core.List.{List, [], _∷_, _++_, append-assoc}
+use Prim.Native.Nat.{ℕ, zero, suc, _+_, _*_, _<_, _≤_}
 use native.Mathlib.Omega.{arith}
-use lib.ListN.{length, take, drop, getD, length-drop, take-append-drop}
-use lib.Seq.{length-take-le, getD-take, getD-drop, take-append-le}
+use lib.ListN.{length, take, drop, length-drop, take-append-drop}
+use lib.Seq.{length-take-le, getD-drop}
 use Rattle.laws.specs.Bits.{at, run, spread, bits, bitsOf}
 use Rattle.laws.proofs.Bits.{Under, length-spread, run-right, run-left, run-spread}
-use Rattle.format.specs.Format.{octets, times, decode, flat, size}
-use Rattle.format.proofs.Tables.{flat-append}
+use Rattle.format.specs.Format.{octets, times, decode, flat}
 use Rattle.packet.specs.Reading.{numbersAt}
 
 pub octets-at : (b : List ℕ) (k p : ℕ) → numbersAt (times k (octets 1 ∷ [])) b p ≡ run (bits b) p k 8

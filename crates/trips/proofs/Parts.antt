@@ -1,22 +1,21 @@
 -- A packet's table part by part: sizes, numbers, values and tests. Assumes nothing.
-use mathlib.Core.Path.{_≡_, refl, sym, ap, ap₂, _∙_}
+use mathlib.Core.Path.{_≡_, refl, sym, ap, _∙_}
 use mathlib.Core.List.{List, [], _∷_, _++_, append-nil}
-use mathlib.Core.Bool.{Bool, true, false, not, _&&_, cond}
-use Prim.Native.Nat.{ℕ, zero, suc, _+_, _*_, _-_, _/_, _%_, _^_, _<_, _≤_}
+use mathlib.Core.Bool.{Bool, true, false}
+use Prim.Native.Nat.{ℕ, _+_, _*_, _-_}
 use native.Mathlib.Omega.{arith}
-use lib.ListN.{length, take, drop, length-append}
-use lib.Dec.{leb, ltb, eqb}
+use lib.ListN.{length}
+use lib.Dec.{eqb}
 use Rattle.laws.specs.Bits.{at, run, bits}
 use Rattle.laws.specs.Scan.{all}
 use Rattle.laws.proofs.Cases.{and-left, and-right, and-yes}
 use Rattle.format.specs.declared.Line.{Line}
-use Rattle.format.specs.Format.{times, just, size, encode, decode, need, fill, flat, lineOk, fine}
-use Rattle.format.proofs.Tables.{fine-append, fine-join, apart, apart-fine, size-append, size-times, need-append, need-times, flat-append, fill-join, encode-join, length-fill, length-flat, all-append, all-times, given, settled}
-use Rattle.packet.specs.declared.Form.{Form}
-use Rattle.packet.specs.declared.Form.the-variants.{Frequencies, Address, Keep, Clock, Reset, Factory, Drill, Text, Command, Hold, Raw, Unknown}
+use Rattle.format.specs.Format.{times, just, size, decode, need, fill, flat, lineOk, fine}
+use Rattle.format.proofs.Tables.{fine-append, fine-join, apart, apart-fine, size-append, size-times, need-append, need-times, flat-append, fill-join, length-fill, all-append, all-times}
+use Rattle.packet.specs.declared.Form.the-variants.{Raw, Unknown}
 use Rattle.packet.specs.declared.Sort.{Sort}
 use Rattle.packet.specs.declared.Sort.the-variants as sort
-use Rattle.packet.specs.Table.{Row, rowOf, countLine, contentLines, code, ending, packet}
+use Rattle.packet.specs.Table.{Row, countLine, contentLines, code, ending, packet}
 use Rattle.packet.specs.Reading.{partAt}
 
 -- ---- sizes
@@ -136,12 +135,13 @@ all-count f sort.Counted k h = rw h
 all-count f sort.Raw k h = refl
 all-count f sort.Unknown k h = refl
 
-three : (t p n : ℕ) (l : List ℕ) (R : List Line) → fine 26 (just 5 t ∷ just 11 (p - 2) ∷ just 8 n ∷ R) (decode (just 5 t ∷ just 11 (p - 2) ∷ just 8 n ∷ R) l 0) ≡ true → fine 26 R (decode R l 24) ≡ true
+-- ---- the lines after the heading
+rest-fine : (a t p n : ℕ) (l : List ℕ) (R : List Line) → fine a (just 5 t ∷ just 11 (p - 2) ∷ just 8 n ∷ R) (decode (just 5 t ∷ just 11 (p - 2) ∷ just 8 n ∷ R) l 0) ≡ true → fine a R (decode R l 24) ≡ true
 unfolding fine decode
-three t p n l R e =
-    let a = and-right (lineOk 26 (just 5 t) (run l 0 1 5)) _ e in
-    let b = and-right (lineOk 26 (just 11 (p - 2)) (run l 5 1 11)) _ a in
-    and-right (lineOk 26 (just 8 n) (run l 16 1 8)) _ b
+rest-fine a t p n l R e =
+    let x = and-right (lineOk a (just 5 t) (run l 0 1 5)) _ e in
+    let y = and-right (lineOk a (just 11 (p - 2)) (run l 5 1 11)) _ x in
+    and-right (lineOk a (just 8 n) (run l 16 1 8)) _ y
 
 -- ---- the count line of a packet without a fault of 26
 pub packet-26 : (r : Row) (t p n k : ℕ) (l : List ℕ) → fine 26 (packet r t p n k) (decode (packet r t p n k) l 0) ≡ true
@@ -150,7 +150,7 @@ unfolding packet contentLines
 packet-26 r t p n k l e =
     let L = countLine (r .sort) k in
     let K = r .before ++ (L ++ (times k (r .each) ++ r .after)) in
-    let a = three t p n l (times n code ++ (K ++ ending)) e in
+    let a = rest-fine 26 t p n l (times n code ++ (K ++ ending)) e in
     let c = and-right (fine 26 (times n code) (decode (times n code) l 24)) _ (sym (fine-append 26 (times n code) (K ++ ending) l 24) ∙ a) in
     let d = and-left (fine 26 K (decode K l (24 + size (times n code)))) _ (sym (fine-append 26 K ending l (24 + size (times n code))) ∙ c) in
     let g = and-right (fine 26 (r .before) (decode (r .before) l (24 + size (times n code)))) _ (sym (fine-append 26 (r .before) (L ++ (times k (r .each) ++ r .after)) l (24 + size (times n code))) ∙ d) in
@@ -176,3 +176,25 @@ pub packet-fine : (a : ℕ) (r : Row) (t p n k : ℕ) (x y z : List ℕ) → eqb
 unfolding packet fine
 packet-fine a r t p n k x y z e f1 f2 f3 =
     rw (e, fine-join a (times n code) (contentLines r k ++ ending) (fill (times n code) x) (fill (contentLines r k) y ++ fill ending z) (length-fill (times n code) x), f1, fine-join a (contentLines r k) ending (fill (contentLines r k) y) (fill ending z) (length-fill (contentLines r k) y), f2, f3)
+
+-- ---- a packet without a fault has none in the lines before and after what is repeated
+pub ends-fine : (a : ℕ) (r : Row) (t p n k : ℕ) (l : List ℕ) → fine a (packet r t p n k) (decode (packet r t p n k) l 0) ≡ true
+    → (fine a (r .before) (decode (r .before) l (24 + 96 * n)) ≡ true) × (fine a (r .after) (decode (r .after) l (24 + 96 * n + (partAt r + k * size (r .each)))) ≡ true)
+unfolding packet contentLines partAt
+ends-fine a r t p n k l e =
+    let L = countLine (r .sort) k in
+    let M = times k (r .each) in
+    let K = r .before ++ (L ++ (M ++ r .after)) in
+    let q = 24 + size (times n code) in
+    let b = rest-fine a t p n l (times n code ++ (K ++ ending)) e in
+    let c = and-right (fine a (times n code) (decode (times n code) l 24)) _ (sym (fine-append a (times n code) (K ++ ending) l 24) ∙ b) in
+    let d = and-left (fine a K (decode K l q)) _ (sym (fine-append a K ending l q) ∙ c) in
+    let g = sym (fine-append a (r .before) (L ++ (M ++ r .after)) l q) ∙ d in
+    let g1 = and-left (fine a (r .before) (decode (r .before) l q)) _ g in
+    let g2 = and-right (fine a (r .before) (decode (r .before) l q)) _ g in
+    let h = and-right (fine a L (decode L l (q + size (r .before)))) _ (sym (fine-append a L (M ++ r .after) l (q + size (r .before))) ∙ g2) in
+    let i = and-right (fine a M (decode M l (q + size (r .before) + size L))) _ (sym (fine-append a M (r .after) l (q + size (r .before) + size L)) ∙ h) in
+    let w : q + size (r .before) + size L + size M ≡ 24 + 96 * n + (size (r .before) + size (countLine (r .sort) 0) + k * size (r .each)) = omega (arith, size-code n, count-size (r .sort) k, count-size (r .sort) 0, size-times k (r .each)) in (
+      sym (ap (λ (x : ℕ). fine a (r .before) (decode (r .before) l (24 + x))) (size-code n)) ∙ g1,
+      sym (ap (λ (x : ℕ). fine a (r .after) (decode (r .after) l x)) w) ∙ i,
+    )

@@ -3,13 +3,13 @@ use mathlib.Core.Path.{_≡_, refl, sym, ap, ap₂, _∙_}
 use mathlib.Core.Logic.{_⊎_, inl, inr}
 use mathlib.Core.List.{List, [], _∷_, _++_, append-nil, append-assoc}
 use mathlib.Core.Bool.{Bool, true, false, not, _&&_, _||_, cond, true≢false}
-use Prim.Native.Nat.{ℕ, zero, suc, _+_, _*_, _-_, _/_, _%_, _^_, _<_, _≤_}
+use Prim.Native.Nat.{ℕ, zero, suc, _+_, _*_, _-_, _/_, _%_, _<_, _≤_}
 use native.Mathlib.Nat.{mul-assoc, zero-mul}
 use native.Mathlib.Omega.{arith}
-use lib.ListN.{length, take, drop, getD, replicate, length-append, length-drop, length-replicate, take-append-drop, drop-of-length-le}
-use lib.Seq.{sets, length-take-le, take-all, take-at, drop-at}
+use lib.ListN.{length, take, drop, getD, replicate, length-append, length-drop, length-replicate, take-append-drop}
+use lib.Seq.{length-take-le, take-all, take-at, drop-at}
 use lib.Dec.{leb, ltb, eqb}
-use borrow.Author.Tests.{leb-true, eqb-true, ltb-true, ltb-false, not-true, not-false, le-leb, eq-eqb, ne-eqb, lt-ltb}
+use borrow.Author.Tests.{leb-true, eqb-true, ltb-true, ltb-false, not-false, le-leb, eq-eqb, lt-ltb}
 use Rattle.laws.specs.Bits.{at, run, bits, bytes}
 use Rattle.laws.specs.Scan.{all}
 use Rattle.laws.specs.Refusals.{first}
@@ -19,18 +19,17 @@ use Rattle.laws.proofs.Refusals.{pass}
 use Rattle.laws.proofs.Writes.{from-front}
 use Rattle.format.specs.declared.Line.{Line}
 use Rattle.format.specs.Format.{times, just, octets, size, encode, decode, own, need, fill, flat, inside, lineOk, fine}
-use Rattle.format.proofs.Tables.{flat-fill, given, given-fine, apart, apart-fine, all-times, length-flat, need-times, same-inside, size-times}
+use Rattle.format.proofs.Tables.{flat-fill, given, given-fine, apart, apart-fine, all-times, length-flat, need-times, same-inside}
 use Rattle.format.proofs.Round.{Fits, encode-long, under-encode, read-write}
 use Rattle.packet.specs.declared.Form.{Form}
 use Rattle.packet.specs.declared.Form.the-variants.{Unknown}
-use Rattle.packet.specs.declared.Sort.{Sort}
 use Rattle.packet.specs.declared.Sort.the-variants as sort
 use Rattle.packet.specs.declared.Content.{Content}
 use Rattle.packet.specs.declared.Content.the-variants as content
 use Rattle.packet.specs.declared.Fields.{Fields}
 use Rattle.packet.specs.declared.Opened.{Opened}
-use Rattle.packet.specs.Table.{formOf, typeOf, Row, rowOf, countLine, countIn, contentLines, code, ending, packet}
-use Rattle.packet.specs.Content.{contentOf, formFor, numbersOf, numbersIn, countFor, noSuchDay}
+use Rattle.packet.specs.Table.{formOf, rowOf, countLine, countIn, contentLines, code, ending, packet}
+use Rattle.packet.specs.Content.{formFor, numbersOf, numbersIn, countFor, noSuchDay}
 use Rattle.packet.specs.Reading.{kindIn, lengthIn, codesIn, formIn, contentAt, contentSize, countOf, partAt, tableOf, valuesIn, numbersAt, frontIn, bodyIn, backIn, contentIn, digitsIn, zeros, padded, codesOf, hasEntries, fieldsOf, sizeBad, lengthBad, isUnknown, readAnswer, opened, bodyOf}
 use Rattle.packet.specs.Writing.{rowFor, digitsBefore, digitsAfter, frontFor, backFor, bodyFor, sizeFor, tableFor, numbersFor, valuesFor, bytesFor, lentBad, countBad, digitBad, otherType, bodyLost, digitsLost, notTaken, writtenAnswer, outputOf}
 use Rattle.packet.proofs.Forms as forms
@@ -186,11 +185,11 @@ code-apart : all (apart 0) code ≡ true
 unfolding all
 code-apart = refl
 
-octet-size : size (octets 1 ∷ []) ≡ 8
+pub octet-size : size (octets 1 ∷ []) ≡ 8
 unfolding size
 octet-size = refl
 
-no-case : first [] ≡ 0
+pub no-case : first [] ≡ 0
 unfolding first
 no-case = refl
 
