@@ -1,22 +1,31 @@
--- A block of RDS is 26 bits: 16 of information, then 10 of check.
+-- A block of RDS is 26 bits, the highest first: 16 of information, then 10 of check (paper 01, "Blocks"; 000, 7.1.3).
 use mathlib.Core.Bool.{Bool, _&&_}
 use Prim.Native.Nat.{ℕ, _+_, _*_, _/_, _%_, _^_}
-use lib.Bits.{bitXor}
 use lib.Dec.{eqb, ltb}
-use Rattle.laws.specs.Poly.{remainder}
+use Rattle.laws.specs.Poly.{_⊕_, remainder}
+use Rattle.block.specs.declared.Letter.{Letter}
+use Rattle.block.specs.declared.Letter.the-variants.{A, B, C, D}
 
--- g = x^10 + x^8 + x^7 + x^5 + x^4 + x^3 + 1
+-- x^10 + x^8 + x^7 + x^5 + x^4 + x^3 + 1
 abbrev pub generator : ℕ
-generator = 0x5B9
+generator = 2 ^ 10 + 2 ^ 8 + 2 ^ 7 + 2 ^ 5 + 2 ^ 4 + 2 ^ 3 + 1
 
--- what is left of the 26 bits b on division by g
+-- the offset words (paper 01's table, after IEC 62106; docs/DECISIONS.md says why B is not annex A's print)
+abbrev pub offsetOf : Letter → ℕ
+offsetOf A = 0x0FC
+offsetOf B = 0x198
+offsetOf C = 0x168
+offsetOf D = 0x1B4
+
+-- what is left of 26 bits on division by the generator
 unfoldable pub syndrome : ℕ → ℕ
-syndrome b = remainder 10 generator 26 b
+syndrome bits = remainder 10 generator 26 bits
 
--- the check bits: (info * x^10 mod g) + offset
+-- the check bits: what is left of information times x^10, and the offset added.
+-- An offset of 1024 or more is added as it is: its bits above the tenth stand in the result.
 unfoldable pub checkWord : ℕ → ℕ → ℕ
-checkWord info offset = bitXor (syndrome (info * 2 ^ 10)) offset
+checkWord info offset = syndrome (info * 2 ^ 10) ⊕ offset
 
--- 26 bits, of which the low 10 are the check bits of the high 16
-unfoldable pub isBlock : ℕ → ℕ → Bool
-isBlock block offset = ltb block (2 ^ 26) && eqb (checkWord (block / 2 ^ 10) offset) (block % 2 ^ 10)
+-- 26 bits whose low ten are the check bits of the high sixteen with the letter's offset; no number of 2^26 or more
+unfoldable pub isValid : ℕ → Letter → Bool
+isValid bits letter = ltb bits (2 ^ 26) && eqb (checkWord (bits / 2 ^ 10) (offsetOf letter)) (bits % 2 ^ 10)

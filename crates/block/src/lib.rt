@@ -1,60 +1,58 @@
+// Blocks of 26 bits: sixteen of information, then ten of check.
 ghost use mathlib.Core.Path.{_≡_};
-ghost use Prim.Native.Nat.{ℕ, _+_, _*_, _/_, _<_};
-ghost use Rattle.laws.specs.Poly.{reduce};
-ghost use Rattle.block.specs.Block.{generator, syndrome, checkWord, isBlock};
+ghost use Prim.Native.Nat.{ℕ, _*_, _^_};
+ghost use Rattle.block.specs.Block.{syndrome, checkWord, offsetOf, isValid};
 
-// One step of the shift register.
-fn step(reg: u16, bit: u16) -> u16
-    requires { ⌜ (reg < 1024) × (bit < 2) ⌝ }
-    ensures { λ r. ⌜ r ≡ reduce 10 generator (reg * 2 + bit) ⌝ }
-{
-    let t = reg * 2 + bit;
-    if t < 1024 { t } else { t ^ 0x5B9 }
+// Which of a frame's four blocks: the first is A.
+pub enum Letter {
+    A,
+    B,
+    C,
+    D,
 }
 
-// The check bits of an information word.
+// The offset word of a letter.
+pub fn offset_of(letter: Letter) -> u16
+    ensures { λ r. ⌜ r ≡ offsetOf letter ⌝ }
+{
+    match letter {
+        Letter::A => 0x0FC,
+        Letter::B => 0x198,
+        Letter::C => 0x168,
+        Letter::D => 0x1B4,
+    }
+}
+
+// What is left of information times x^10 on division by the generator, with no loop, since hunting asks at every bit:
+// q is the quotient, a sum of shifts of the information, and what q times the generator has below x^10 is the remainder.
+fn remainder_of(info: u16) -> u16
+    ensures { λ r. ⌜ r ≡ syndrome (info * 2 ^ 10) ⌝ }
+{
+    let p = info as u32;
+    let h = p >> 2;
+    let u = h ^ (h >> 1);
+    let a = u ^ (u >> 2) ^ (h >> 4);
+    let q = p ^ a ^ (a >> 9);
+    let w = q ^ (q << 1);
+    ((q ^ (w << 3) ^ (q << 5) ^ (w << 7)) % 1024) as u16
+}
+
+// The check bits of an information word, with an offset added.
 pub fn check_word(info: u16, offset: u16) -> u16
     ensures { λ r. ⌜ r ≡ checkWord info offset ⌝ }
 {
-    let v = (info as u32) << 10;
-    let mut reg = info >> 6;
-    let mut i: u32 = 0;
-    while i < 16 {
-        let bit = (v >> (15 - i)) % 2;
-        reg = step(reg, bit as u16);
-        i += 1;
-    }
-    reg ^ offset
+    remainder_of(info) ^ offset
 }
 
-// Whether `block` is 26 bits, of which the low ten are the check bits of the high sixteen.
-pub fn valid(block: u32, offset: u16) -> bool
-    ensures { λ r. ⌜ r ≡ isBlock block offset ⌝ }
+// Whether `bits` is a block of the letter; what has more than 26 bits is none.
+pub fn valid(bits: u32, letter: Letter) -> bool
+    ensures { λ r. ⌜ r ≡ isValid bits letter ⌝ }
 {
-    if block < 0x400_0000 {
-        let info = (block >> 10) as u16;
-        let check = (block % 1024) as u16;
-        check_word(info, offset) == check
+    if bits < 0x400_0000 {
+        let info = (bits / 1024) as u16;
+        let check = (bits % 1024) as u16;
+        check_word(info, offset_of(letter)) == check
     } else {
         false
     }
-}
-
-// What is left of the low 26 bits on division by the generator.
-pub fn syndrome_of(block: u32) -> u16
-    ensures { λ r. ⌜ r ≡ syndrome block ⌝ }
-{
-    let mut reg: u16 = 0;
-    for i in 0..26u32 {
-        let bit = (block >> (25 - i)) & 1;
-        reg = step(reg, bit as u16);
-    }
-    reg
-}
-
-// The same check bits by way of the syndrome.
-pub fn check_word_2(info: u16, offset: u16) -> u16
-    ensures { λ r. ⌜ r ≡ checkWord info offset ⌝ }
-{
-    syndrome_of((info as u32) << 10) ^ offset
 }

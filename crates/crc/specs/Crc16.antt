@@ -1,40 +1,36 @@
--- CRC-16/CCITT-FALSE: g = x^16 + x^12 + x^5 + 1, a register that starts at all ones, the highest bit first, nothing added at the end.
-use mathlib.Core.Path.{_≡_, refl}
+-- The packet check (paper 01, "Collector"; 000, table 22 no. 10): CRC-16 CCITT-FALSE, a register that starts at all ones,
+-- the highest bit first, nothing added at the end.
 use mathlib.Core.List.{List, [], _∷_}
-use Prim.Native.Nat.{ℕ, zero, suc, _+_, _*_, _^_}
+use Prim.Native.Nat.{ℕ, _+_, _*_, _^_}
 use lib.ListN.{length}
-use lib.Bits.{bitXor}
-use Rattle.laws.specs.Poly.{reduce}
+use Rattle.laws.specs.Poly.{_⊕_, remainder}
 
+-- x^16 + x^12 + x^5 + 1
 abbrev pub generator : ℕ
-generator = 0x1_1021
+generator = 2 ^ 16 + 2 ^ 12 + 2 ^ 5 + 1
 
--- the register times x^k, less g where x^16 stands in it
-unfoldable pub shifts : ℕ → ℕ → ℕ
-shifts zero r = r
-shifts (suc k) r = reduce 16 generator (shifts k r * 2)
+-- the register times x^8: what is left of its 24 bits on division by the generator
+unfoldable pub timesByte : ℕ → ℕ
+timesByte register = remainder 16 generator 24 (register * 2 ^ 8)
 
 -- the register with one more byte taken in at its high end
-unfoldable pub crcByte : ℕ → ℕ → ℕ
-crcByte r b = shifts 8 (bitXor r (b * 2 ^ 8))
+unfoldable pub taken : ℕ → ℕ → ℕ
+taken register byte = timesByte (register ⊕ byte * 2 ^ 8)
 
-unfoldable pub crcFrom : ℕ → List ℕ → ℕ
-crcFrom r [] = r
-crcFrom r (b ∷ bs) = crcFrom (crcByte r b) bs
+-- and with each of a list
+unfoldable pub takenAll : ℕ → List ℕ → ℕ
+takenAll register [] = register
+takenAll register (b ∷ bs) = takenAll (taken register b) bs
 
+-- the check of a packet's bytes; of no byte it is the start value
 unfoldable pub crc16 : List ℕ → ℕ
-crc16 bytes = crcFrom 0xFFFF bytes
+crc16 bytes = takenAll 0xFFFF bytes
 
--- the check value of the nine digits 1 to 9, and of no byte
-pub digits-check : crc16 (0x31 ∷ 0x32 ∷ 0x33 ∷ 0x34 ∷ 0x35 ∷ 0x36 ∷ 0x37 ∷ 0x38 ∷ 0x39 ∷ []) ≡ 0x29B1
-unfolding crc16 crcFrom crcByte shifts reduce
-digits-check = refl
-
-pub none-check : crc16 [] ≡ 0xFFFF
-unfolding crc16 crcFrom
-none-check = refl
-
--- the bytes as a polynomial, the first byte's bits highest (a sum of polynomials is `bitXor`)
+-- the bytes as one polynomial, the first byte's bits highest
 unfoldable pub message : List ℕ → ℕ
 message [] = 0
-message (b ∷ bs) = bitXor (b * 2 ^ (8 * length bs)) (message bs)
+message (b ∷ bs) = b * 2 ^ (8 * length bs) ⊕ message bs
+
+-- times x^16, to make room for the check, with the first 16 bits inverted by the start value
+unfoldable pub dividend : List ℕ → ℕ
+dividend bytes = 0xFFFF * 2 ^ (8 * length bytes) ⊕ message bytes * 2 ^ 16

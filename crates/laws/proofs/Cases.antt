@@ -1,6 +1,6 @@
 -- A test that is known picks its case. Over variables, so that an answer applies them with no rewriting of its goal. Assumes nothing.
 use mathlib.Core.Path.{_≡_, refl}
-use mathlib.Core.Bool.{Bool, true, false, cond, not, _&&_, _||_, false≢true}
+use mathlib.Core.Bool.{Bool, true, false, cond, _&&_, _||_, false≢true}
 
 pub and-yes : {a : Bool} (b : Bool) → a ≡ true → (a && b) ≡ b
 and-yes b e = rw e

@@ -1,17 +1,14 @@
 -- That `remainder` is the remainder: p is a multiple of g and the remainder, which is of lower degree than g, and no other number is. Assumes nothing.
-use mathlib.Core.Path.{_≡_, refl, sym, ap, ap₂, _∙_, subst}
+use mathlib.Core.Path.{_≡_, sym, ap, ap₂, _∙_, subst}
 use Prim.Native.Nat.{ℕ, zero, suc, _+_, _*_, _/_, _%_, _^_, _≤_, _<_}
-use native.Mathlib.Nat.{mod-lt, zero-lt-suc, zero-mul, one-mul, div-lt-iff-lt-mul, div-add-mod', pow-suc, mul-comm, mul-div-cancel, mul-mod-left, add-zero, suc-add, lt-of-lt-of-le}
+use native.Mathlib.Nat.{mod-lt, zero-lt-suc, zero-mul, one-mul, div-lt-iff-lt-mul, div-add-mod', pow-suc, mul-comm, mul-div-cancel, mul-mod-left, add-zero, suc-add, lt-of-lt-of-le, add-comm, mul-lt-mul-of-pos-right}
 use native.Mathlib.Omega.{arith}
 use lib.Pow.{pow-pos, pow-mono}
 use lib.Arith.{lt-one, digits-div, digits-mod}
-use lib.Bits.{bitXor, xor-block, xor-self}
-use Rattle.laws.specs.Poly.{reduce, remainder, product, quotient}
+use lib.Bits.{bitXor, xor-block, xor-self, xor-lt}
+use Rattle.laws.specs.Poly.{reduce, remainder, product, quotient, IsRemainder}
 use Rattle.laws.proofs.Xor.{bit-cases, xor-assoc}
-use Rattle.laws.proofs.Laws.{top, down, remainder-lt, remainder-low, remainder-xor, reduce-low}
-
-half : (p n : ℕ) → p < 2 ^ suc n → p / 2 < 2 ^ n
-half p n h = div-lt-iff-lt-mul (zero-lt-suc 1) .1 (subst (λ (x : ℕ). p < x) (pow-suc 2 n) h)
+use Rattle.laws.proofs.Remainder.{half, top, down, leading-zeros, remainder-lt, remainder-low, remainder-xor, reduce-low}
 
 module _ (d g : ℕ) (hg : g / 2 ^ d ≡ 1) where
   -- p = quotient * g + remainder
@@ -89,3 +86,27 @@ module _ (d g : ℕ) (hg : g / 2 ^ d ≡ 1) where
   remainder-is n q r h =
       remainder-xor d g hg (n + d) (product n q g) r
       ∙ ap₂ bitXor (remainder-product n q) (remainder-low d g (n + d) r h (longer n r h))
+
+  -- ---- the remainder, said with no word of how it is found
+  product-lt : (n q : ℕ) → product n q g < 2 ^ (n + d)
+  unfolding product
+  product-lt zero q = pow-pos (0 + d)
+  product-lt (suc n) q =
+      xor-lt (suc n + d) (product n (q / 2) g * 2) (q % 2 * g)
+      (subst (λ (x : ℕ). product n (q / 2) g * 2 < x) (sym (ap (λ (m : ℕ). 2 ^ m) (suc-add n d) ∙ pow-suc 2 (n + d))) (mul-lt-mul-of-pos-right (product-lt n (q / 2)) (zero-lt-suc 1)))
+      (lt-of-lt-of-le (bit-cases (λ b. b * g < 2 ^ suc d) (q % 2) (mod-lt q (zero-lt-suc 1)) (subst (λ (x : ℕ). x < 2 ^ suc d) (sym (zero-mul g)) (pow-pos (suc d))) (subst (λ (x : ℕ). x < 2 ^ suc d) (sym (one-mul g)) g-lt)) (let l : suc d ≤ suc n + d = omega arith in pow-mono l))
+
+  -- what long division leaves is the remainder
+  pub is-remainder : (n p : ℕ) → p < 2 ^ n → IsRemainder d g p (remainder d g n p)
+  is-remainder n p h =
+      record { terms = n; factor = quotient d g n p; divides = division n p h; shorter = remainder-lt d g hg n p }
+
+  -- and no other number is
+  pub only-remainder : (n p r : ℕ) → p < 2 ^ n → IsRemainder d g p r → r ≡ remainder d g n p
+  only-remainder n p r h x =
+      let m = x .terms + d in
+      let small : p < 2 ^ m = subst (λ (y : ℕ). y < 2 ^ m) (sym (x .divides)) (xor-lt m (product (x .terms) (x .factor) g) r (product-lt (x .terms) (x .factor)) (longer (x .terms) r (x .shorter))) in
+      sym (ap (remainder d g m) (x .divides) ∙ remainder-is (x .terms) (x .factor) r (x .shorter))
+      ∙ sym (leading-zeros d g n m p small)
+      ∙ ap (λ (k : ℕ). remainder d g k p) (add-comm n m)
+      ∙ leading-zeros d g m n p h

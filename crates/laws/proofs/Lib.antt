@@ -1,9 +1,14 @@
 pub mod Cases
+pub mod Below
 pub mod Xor
-pub mod Laws
+pub mod Remainder
 pub mod Division
-pub mod Loop
+pub mod Linear
 pub mod Refusals
 pub mod Scan
 pub mod Bits
+pub mod Elements
+pub mod ByteFields
+pub mod Words
 pub mod Writes
+pub mod Parts

@@ -1,7 +1,7 @@
 -- The law of `first`: a number is answered exactly when its case holds and no case before it does. Assumes nothing.
 use mathlib.Core.Path.{_≡_, refl, sym, ap, _∙_}
 use mathlib.Core.Logic.{_↔_, _⊎_, inl, inr, ⊎-elim}
-use mathlib.Core.Bool.{Bool, true, false, cond, not, _&&_, _||_, true≢false, or-true}
+use mathlib.Core.Bool.{Bool, true, false, cond, not, _&&_, true≢false, or-true}
 use mathlib.Core.List.{List, [], _∷_}
 use Prim.Native.Nat.{ℕ, zero, suc, _<_}
 use native.Mathlib.Nat.{not-suc-le-zero, le-of-suc-le-suc}
@@ -98,3 +98,7 @@ stop n cs e = if-yes n (first cs) e
 pub pass : {t : Bool} (n : ℕ) (cs : List Case) → t ≡ false → first ((t, n) ∷ cs) ≡ first cs
 unfolding first
 pass n cs e = if-no n (first cs) e
+
+pub none-left : first [] ≡ 0
+unfolding first
+none-left = refl

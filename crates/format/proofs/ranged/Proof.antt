@@ -1,3 +1,4 @@
+-- `format::ranged` meets its contract. Assumes nothing.
 use mathlib.Core.Path.{sym, _∙_}
 use Rattle.laws.proofs.Cases.{if-yes, if-no}
 use Rattle.format.proofs.Leaves as laws

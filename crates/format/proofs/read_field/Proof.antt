@@ -1,3 +1,4 @@
+-- `format::read_field` meets its contract. Assumes nothing.
 use Rattle.laws.proofs.Bits.{at-small}
 use mathlib.Core.Path.{refl}
 use mathlib.Core.Path.{_≡_, _∙_}

@@ -1,0 +1,5 @@
+pub mod Laws
+pub mod Packed
+pub mod Frame
+pub mod Stream
+pub mod Answers

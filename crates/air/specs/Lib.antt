@@ -1,0 +1,2 @@
+pub mod OnAir
+pub mod Packed

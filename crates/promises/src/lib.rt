@@ -1,0 +1,1 @@
+// The promises of the whole, as theorems (specs/ and proofs/). No code.

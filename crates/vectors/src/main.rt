@@ -1,0 +1,7 @@
+// Runs the proved functions on published and worked examples, and prints what each gives beside what it should be.
+mod checks;
+mod say;
+
+fn main() {
+    checks::run();
+}

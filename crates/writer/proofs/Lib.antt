@@ -1,0 +1,10 @@
+pub mod Line
+pub mod Lines
+pub mod Rows
+pub mod Front
+pub mod Count
+pub mod Contents
+pub mod Shapes
+pub mod Whole
+pub mod Together
+pub mod Inside

@@ -1,0 +1,79 @@
+-- The loop that puts a line: how it starts, goes on and ends. Assumes nothing.
+use mathlib.Core.Path.{_≡_, refl, sym, ap, _∙_}
+use mathlib.Core.Bool.{Bool, true, false, cond}
+use mathlib.Core.List.{List}
+use Prim.Native.Nat.{ℕ, _+_, _*_, _<_, _≤_}
+use native.Mathlib.Nat.{le-trans, mul-le-mul-left}
+use native.Mathlib.Omega.{arith}
+use lib.Dec.{leb}
+use lib.ListN.{length, getD, drop, length-drop, length-replicate, getD-replicate}
+use lib.Seq.{sets, length-take-le, getD-take, getD-drop}
+use borrow.Author.Tests.{leb-true}
+use Rattle.laws.specs.Bits.{bits, bitsOf, spread}
+use Rattle.laws.proofs.Cases.{and-both, if-yes}
+use Rattle.format.specs.declared.Line.{Line}
+use Rattle.format.specs.Format.{own}
+use Rattle.format.specs.Reach.{fieldBits}
+use Rattle.format.proofs.Leaves.{reached, same-long, spread-turn, spread-done}
+use Rattle.writer.specs.Puts.{sound, valueOf}
+
+pub record Sound (t : Line) : Type 0 where
+  pub few : t .n ≤ 64
+  pub narrow : t .w ≤ 32
+  pub area : t .n * t .w ≤ 2048
+
+pub sound-is : (t : Line) → sound t ≡ true → Sound t
+sound-is t e =
+    let a = and-both (leb (t .n) 64) (leb (t .w) 32) e in
+    let n = leb-true (t .n) 64 (a .0) in
+    let w = leb-true (t .w) 32 (a .1) in
+    record { few = n; narrow = w; area = le-trans (mul-le-mul-left (t .n) w) (omega arith) }
+
+-- a line has as many numbers as it says, and the j-th is the one that the code takes
+module _ (t : Line) (xs : List ℕ) (i : ℕ) (h : i + own t ≤ length xs) where
+  pub length-value : length (valueOf t (drop i xs)) ≡ t .n
+  length-value = part (t .free) refl
+    where
+      part : (b : Bool) → t .free ≡ b → length (valueOf t (drop i xs)) ≡ t .n
+      part true e =
+          let o : own t ≡ t .n = if-yes (t .n) 0 e in
+          rw e (length-take-le (t .n) (drop i xs) (omega (arith, length-drop i xs)))
+      part false e = rw e (length-replicate (t .n) (t .lo))
+
+  pub number-at : (j : ℕ) → j < t .n → cond (t .free) (getD xs (i + j) 0) (t .lo) ≡ getD (valueOf t (drop i xs)) j 0
+  number-at j k = part (t .free) refl
+    where
+      part : (b : Bool) → t .free ≡ b → cond (t .free) (getD xs (i + j) 0) (t .lo) ≡ getD (valueOf t (drop i xs)) j 0
+      part true e = rw e (sym (getD-take (t .n) (drop i xs) j 0 k ∙ getD-drop i xs j 0))
+      part false e = rw e (sym (getD-replicate (t .n) j (t .lo) 0 k))
+
+pub record Going (out₀ : List ℕ) (p : ℕ) (t : Line) (xs : List ℕ) (i : ℕ) (out : List ℕ) (q j : ℕ) : Type 0 where
+  pub within : j ≤ t .n
+  pub place : q ≤ p + 32 * j
+  pub kept : length out ≡ length out₀
+  pub rest : sets (bits out₀) p (spread (t .w) (valueOf t (drop i xs))) ≡ sets (bits out) q (spread (t .w) (drop j (valueOf t (drop i xs))))
+
+pub going-first : (out : List ℕ) (p : ℕ) (t : Line) (xs : List ℕ) (i : ℕ) → Going out p t xs i out p 0
+going-first out p t xs i = record { within = omega arith; place = omega arith; kept = refl; rest = refl }
+
+pub going-turn : (out₀ : List ℕ) (p : ℕ) (t : Line) (xs : List ℕ) (i : ℕ) (out last : List ℕ) (q j x : ℕ) → sound t ≡ true → p < 50000 → i + own t ≤ length xs → Going out₀ p t xs i out q j → j < t .n
+    → x ≡ cond (t .free) (getD xs (i + j) 0) (t .lo) → bits last ≡ sets (bits out) q (fieldBits q (t .w) x) → Going out₀ p t xs i last (q + t .w) (j + 1)
+going-turn out₀ p t xs i out last q j x s hp h g k ex e =
+    let z = sound-is t s in
+    let n1 = z .few in
+    let w1 = z .narrow in
+    let pl = g .place in
+    let f : bits last ≡ sets (bits out) q (bitsOf (t .w) x) = e ∙ ap (sets (bits out) q) (if-yes (bitsOf (t .w) x) _ (reached q 1 (t .w) (omega arith) (omega arith) w1)) in
+    let m = length-value t xs i h in
+    record {
+      within = omega arith;
+      place = omega arith;
+      kept = same-long last out q (bitsOf (t .w) x) f ∙ g .kept;
+      rest = spread-turn (t .w) (valueOf t (drop i xs)) (bits out) (bits last) (sets (bits out₀) p (spread (t .w) (valueOf t (drop i xs)))) q j x (omega arith) (g .rest) f (ex ∙ number-at t xs i h j k);
+    }
+
+pub going-last : (out₀ : List ℕ) (p : ℕ) (t : Line) (xs : List ℕ) (i : ℕ) (out : List ℕ) (q j : ℕ) → i + own t ≤ length xs → Going out₀ p t xs i out q j → t .n ≤ j
+    → bits out ≡ sets (bits out₀) p (spread (t .w) (valueOf t (drop i xs)))
+going-last out₀ p t xs i out q j h g k =
+    let m = length-value t xs i h in
+    spread-done (t .w) (valueOf t (drop i xs)) (bits out) (sets (bits out₀) p (spread (t .w) (valueOf t (drop i xs)))) q j (omega arith) (g .rest)

@@ -1,0 +1,30 @@
+use mathlib.Core.Path.{sym, _∙_}
+use lib.ListN.{List·getD-eq-default}
+use native.Mathlib.Omega.{arith}
+use Prim.Native.Nat.{_≤_}
+use lib.ListN.{length}
+use Rattle.laws.proofs.Cases.{if-yes}
+use borrow.Author.Needs.{needs}
+use Rattle.writer.proofs.puts.number_of.Statement.{statement}
+use Rattle.writer.proofs.puts.number_of.Tie as tie
+
+mul-result : tie.Need-mul-result
+mul-result c = search needs
+
+shared-slice-read-result : tie.Need-shared-slice-read-result
+shared-slice-read-result c = search needs
+
+returns : tie.Need-returns
+returns c = sym (if-yes _ _ (c .before .before .if1 .taken))
+
+returns-2 : tie.Need-returns-2
+returns-2 c =
+    let h : length (c .before .before .args .xs .now) ≤ c .before .before .args .i = omega arith in
+    sym (if-yes _ _ (c .before .if1 .taken) ∙ List·getD-eq-default (c .before .before .args .xs .now) 0 h)
+
+returns-3 : tie.Need-returns-3
+returns-3 c = search needs
+
+pub number-of-spec : {M : Type 1} → statement M
+number-of-spec =
+    tie.close (tie.spec mul-result shared-slice-read-result returns returns-2 returns-3)

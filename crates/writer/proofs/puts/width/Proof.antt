@@ -1,0 +1,14 @@
+use mathlib.Core.Path.{refl}
+use native.Mathlib.Omega.{arith}
+use Rattle.writer.proofs.Line.{sound-is}
+use Rattle.writer.proofs.puts.width.Statement.{statement}
+use Rattle.writer.proofs.puts.width.Tie as tie
+
+mul-result : tie.Need-mul-result
+mul-result c = omega (arith, sound-is (c .before .args .t) (c .before .pre) .area)
+
+returns : tie.Need-returns
+returns c = (refl, sound-is (c .before .args .t) (c .before .pre) .area)
+
+pub width-spec : {M : Type 1} → statement M
+width-spec = tie.close (tie.spec mul-result returns)

@@ -1,0 +1,63 @@
+-- The bits of a packet part by part, as the writer puts them.
+use mathlib.Core.Path.{_≡_}
+use mathlib.Core.List.{List, [], _++_}
+use Prim.Native.Nat.{ℕ, _+_, _-_, _*_, _≤_}
+use lib.ListN.{length}
+use Rattle.laws.specs.Bits.{bitsOf, spread}
+use Rattle.format.specs.declared.Line.{Line}
+use Rattle.format.specs.Format.{size, need, encode, fill, times}
+use Rattle.packet.specs.declared.Content.{Content}
+use Rattle.packet.specs.declared.Fields.{Fields}
+use Rattle.packet.specs.Table.{countLine, contentLines}
+use Rattle.packet.specs.Content.{countFor}
+use Rattle.packet.specs.Writing.{rowFor, frontFor, backFor, bodyFor, sizeFor}
+
+-- a content: its first lines and its count; what is repeated; its last lines
+unfoldable pub frontBits : Content → List ℕ → ℕ → List ℕ
+frontBits c ds k =
+    encode (rowFor c .before) (fill (rowFor c .before) (frontFor c ds)) ++ encode (countLine (rowFor c .sort) k) (fill (countLine (rowFor c .sort) k) [])
+
+unfoldable pub frontSize : Content → ℕ → ℕ
+frontSize c k = size (rowFor c .before) + size (countLine (rowFor c .sort) k)
+
+unfoldable pub bodyBits : Content → List ℕ → List ℕ
+bodyBits c body = encode (times (countFor c body) (rowFor c .each)) (fill (times (countFor c body) (rowFor c .each)) (bodyFor c body))
+
+unfoldable pub bodySize : Content → List ℕ → ℕ
+bodySize c body = countFor c body * size (rowFor c .each)
+
+unfoldable pub backBits : Content → List ℕ → List ℕ
+backBits c ds = encode (rowFor c .after) (fill (rowFor c .after) (backFor c ds))
+
+-- a body of which no count is wrong: at most 255 rows, and as many numbers as they need
+pub record Lent (c : Content) (body : List ℕ) : Type 0 where
+  pub few : countFor c body ≤ 255
+  pub numbers : length body ≡ countFor c body * need (rowFor c .each)
+
+-- the whole content
+abbrev pub linesFor : Content → List ℕ → List Line
+linesFor c body = contentLines (rowFor c) (countFor c body)
+
+unfoldable pub contentBits : Content → List ℕ → List ℕ → List ℕ
+contentBits c ds body = encode (linesFor c body) (fill (linesFor c body) (frontFor c ds ++ (bodyFor c body ++ backFor c ds)))
+
+unfoldable pub contentSize : Content → List ℕ → ℕ
+contentSize c body = size (linesFor c body)
+
+-- what stands before the codes, and behind the content
+unfoldable pub headBits : ℕ → ℕ → ℕ → List ℕ
+headBits kind p n = bitsOf 5 kind ++ (bitsOf 11 (p - 2) ++ bitsOf 8 n)
+
+unfoldable pub endingBits : ℕ → List ℕ → List ℕ → List ℕ
+endingBits time certificate signature = bitsOf 32 time ++ (spread 4 certificate ++ spread 8 signature)
+
+-- counts that are those of what is lent
+pub record Counts (f : Fields) (codes body : List ℕ) : Type 0 where
+  pub lent : Lent (f .content) body
+  pub coded : length codes ≡ f .codes * 23
+  pub few : f .codes ≤ 255
+
+-- fields that can be written: besides, the packet is not too long
+pub record Writable (f : Fields) (codes body : List ℕ) : Type 0 where
+  pub counts : Counts f codes body
+  pub small : sizeFor f body ≤ 250

@@ -1,0 +1,72 @@
+-- What the writer's helpers ask and give.
+use mathlib.Core.Path.{_≡_}
+use mathlib.Core.Bool.{Bool, true, _&&_, cond}
+use mathlib.Core.List.{List, _++_}
+use Prim.Native.Nat.{ℕ, _+_, _*_, _<_, _≤_}
+use lib.ListN.{length, replicate, take}
+use lib.Seq.{sets}
+use lib.Dec.{leb}
+use Rattle.laws.specs.Bits.{bits}
+use Rattle.laws.specs.Scan.{all}
+use Rattle.format.specs.declared.Line.{Line}
+use Rattle.format.specs.Format.{need, size}
+use Rattle.packet.specs.declared.Lines.{Lines}
+use Rattle.packet.specs.declared.Content.{Content}
+use Rattle.packet.specs.declared.Content.the-variants as content
+use Rattle.packet.specs.Content.{numbersOf}
+
+-- a line that the writer's loops can put: at most 64 numbers of at most 32 bits
+abbrev pub sound : Line → Bool
+sound t = leb (t .n) 64 && leb (t .w) 32
+
+-- the numbers of a line, where xs are those at hand
+abbrev pub valueOf : Line → List ℕ → List ℕ
+valueOf t xs = cond (t .free) (take (t .n) xs) (replicate (t .n) (t .lo))
+
+-- the bits v put from bit p on, and the place behind them
+pub record After (before after : List ℕ) (p : ℕ) (v : List ℕ) (r : ℕ) (s : ℕ) : Type 0 where
+  pub put : bits after ≡ sets (bits before) p v
+  pub place : r ≡ p + s
+
+-- lines that can be put from bit p on, and enough numbers xs for them
+pub record Puttable (ts : Lines) (xs : List ℕ) (p : ℕ) : Type 0 where
+  pub few : ts .m ≤ 6
+  pub lines : all sound (take (ts .m) (ts .all)) ≡ true
+  pub numbers : need (take (ts .m) (ts .all)) ≤ length xs
+  pub brief : length xs ≤ 1000
+  pub place : p < 30000
+
+-- n rows of lines, each of w numbers and at most 100 bits, from bit p on, and the numbers xs of all of them
+pub record Rows (ts : Lines) (n w : ℕ) (xs : List ℕ) (p : ℕ) : Type 0 where
+  pub few : ts .m ≤ 6
+  pub lines : all sound (take (ts .m) (ts .all)) ≡ true
+  pub each : need (take (ts .m) (ts .all)) ≡ w
+  pub narrow : w ≤ 40
+  pub short : size (take (ts .m) (ts .all)) ≤ 100
+  pub count : n ≤ 255
+  pub numbers : length xs ≡ n * w
+  pub place : p < 3000
+
+-- the content's numbers stand first
+pub record Numbered (c : Content) (r : List ℕ) : Type 0 where
+  pub numbers : take (length (numbersOf c)) r ≡ numbersOf c
+  pub long : length r ≡ 41
+
+-- and its digits behind them
+pub record Fronted (c : Content) (ds r : List ℕ) : Type 0 where
+  pub front : take (length (numbersOf c) + 35) r ≡ numbersOf c ++ ds
+  pub long : length r ≡ 41
+
+-- the count of a content, where so many bytes are lent
+abbrev pub countOf : Content → ℕ → ℕ
+countOf content.Raw lent = lent
+countOf (content.Frequencies k) lent = k
+countOf (content.Address m) lent = m
+countOf (content.Keep on period) lent = 0
+countOf (content.Clock year month day hour minute second) lent = 0
+countOf (content.Reset change) lent = 0
+countOf content.Factory lent = 0
+countOf (content.Drill action) lent = 0
+countOf (content.Text kind set t) lent = t
+countOf (content.Command k) lent = k
+countOf (content.Hold serial) lent = 0

@@ -1,0 +1,135 @@
+// The lines of a table put into bits: a line, lines, rows of lines.
+ghost use mathlib.Core.Path.{_≡_};
+ghost use mathlib.Core.Bool.{true, cond};
+ghost use Prim.Native.Nat.{_+_, _*_, _<_, _≤_};
+ghost use lib.ListN.{length, getD, take, drop, replicate};
+ghost use lib.Seq.{sets};
+ghost use Rattle.laws.specs.Bits.{bits, spread};
+ghost use Rattle.laws.specs.Scan.{all};
+ghost use Rattle.format.specs.Format.{own, size, encode, fill, times};
+ghost use Rattle.packet.specs.Table.{countLine};
+ghost use mathlib.Core.List.{[]};
+ghost use Rattle.writer.specs.Puts.{sound, valueOf, After, Puttable, Rows};
+use format::Line;
+use packet::Lines;
+use packet::Sort;
+
+// The number at i of a line: its own, or the one that it always has.
+fn number_of(t: Line, xs: &[u32], i: usize) -> u32
+    ensures { λ r. ⌜ r ≡ cond (t .free) (getD (now (xs .entry)) i 0) (t .lo) ⌝ }
+{
+    let free = t.free;
+    if free {
+        if i < xs.len() { xs[i] } else { 0 }
+    } else {
+        t.lo
+    }
+}
+
+// A line from bit p on, with the numbers of xs from i on.
+fn put_line(out: &mut [u8], p: usize, t: Line, xs: &[u32], i: usize)
+    requires { ⌜ (sound t ≡ true) × (p < 50000) × (i + own t ≤ length (now xs)) × (length (now xs) ≤ 1000) ⌝ }
+    ensures { λ _. ⌜ bits (now (out .exit)) ≡ sets (bits (now (out .entry))) p (spread (t .w) (valueOf t (drop i (now (xs .entry))))) ⌝ }
+{
+    let n = t.n;
+    let w = t.w;
+    let mut q = p;
+    let mut j: usize = 0;
+    while j < n {
+        let x = number_of(t, xs, i + j);
+        format::put_field(out, q, w, x);
+        q += w;
+        j += 1;
+    }
+}
+
+// The bits of a line, and how many numbers it takes of those at hand.
+fn width(t: Line) -> usize
+    requires { ⌜ sound t ≡ true ⌝ }
+    ensures { λ r. ⌜ (r ≡ t .n * t .w) × (r ≤ 2048) ⌝ }
+{
+    t.n * t.w
+}
+
+fn taken(t: Line) -> usize
+    ensures { λ r. ⌜ r ≡ own t ⌝ }
+{
+    let free = t.free;
+    if free { t.n } else { 0 }
+}
+
+// Lines from bit p on, with the numbers xs; the place behind them.
+pub(crate) fn put_lines(out: &mut [u8], p: usize, ts: Lines, xs: &[u32]) -> usize
+    requires { ⌜ Puttable ts (now xs) p ⌝ }
+    ensures { λ r. ⌜ After (now (out .entry)) (now (out .exit)) p (encode (take (ts .m) (ts .all)) (fill (take (ts .m) (ts .all)) (now (xs .entry)))) r (size (take (ts .m) (ts .all))) ⌝ }
+{
+    let m = ts.m;
+    let all = ts.all;
+    let mut q = p;
+    let mut i: usize = 0;
+    let mut j: usize = 0;
+    while j < m {
+        let t = all[j];
+        put_line(out, q, t, xs, i);
+        q += width(t);
+        i += taken(t);
+        j += 1;
+    }
+    q
+}
+
+// n of the numbers xs from the at-th on, widened.
+pub(crate) fn widened(xs: &[u8], at: usize, n: usize) -> [u32; 40]
+    requires { ⌜ (n ≤ 40) × (at + n ≤ length (now xs)) ⌝ }
+    ensures { λ r. ⌜ (take n r ≡ take n (drop at (now (xs .entry)))) × (length r ≡ 40) ⌝ }
+{
+    let mut wide = [0u32; 40];
+    let mut j: usize = 0;
+    while j < n {
+        wide[j] = xs[at + j] as u32;
+        j += 1;
+    }
+    wide
+}
+
+// Rows of the same lines from bit p on, n of them, each with w of the numbers xs; the place behind them.
+pub(crate) fn put_rows(out: &mut [u8], p: usize, ts: Lines, n: usize, w: usize, xs: &[u8]) -> usize
+    requires { ⌜ Rows ts n w (now xs) p ⌝ }
+    ensures { λ r. ⌜ After (now (out .entry)) (now (out .exit)) p (encode (times n (take (ts .m) (ts .all))) (fill (times n (take (ts .m) (ts .all))) (now (xs .entry)))) r (n * size (take (ts .m) (ts .all))) ⌝ }
+{
+    let mut q = p;
+    let mut i: usize = 0;
+    let mut j: usize = 0;
+    while j < n {
+        let row = widened(xs, i, w);
+        q = put_lines(out, q, ts, &row);
+        i += w;
+        j += 1;
+    }
+    q
+}
+
+// The count of a counted content.
+pub(crate) fn put_count(out: &mut [u8], p: usize, sort: Sort, k: usize) -> usize
+    requires { ⌜ (k ≤ 255) × (p < 30000) ⌝ }
+    ensures { λ r. ⌜ After (now (out .entry)) (now (out .exit)) p (encode (countLine sort k) (fill (countLine sort k) [])) r (size (countLine sort k)) ⌝ }
+{
+    match sort {
+        Sort::Fixed => p,
+        Sort::Counted => {
+            format::put_field(out, p, 8, k as u32);
+            p + 8
+        }
+        Sort::Raw => p,
+        Sort::Unknown => p,
+    }
+}
+
+// Bytes as they are.
+pub(crate) fn put_octets(out: &mut [u8], p: usize, xs: &[u8]) -> usize
+    requires { ⌜ (length (now xs) ≤ 255) × (p < 30000) ⌝ }
+    ensures { λ r. ⌜ After (now (out .entry)) (now (out .exit)) p (spread 8 (now (xs .entry))) r (8 * length (now (xs .entry))) ⌝ }
+{
+    format::put_fields(out, p, 8, xs);
+    p + 8 * xs.len()
+}
