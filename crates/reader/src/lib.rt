@@ -108,7 +108,7 @@ pub fn text(packet: &[u8]) -> &[u8]
 {
     if text_answer(packet) == 0 {
         let from = 23 + 12 * parts::codes_count(packet);
-        let k = parts::count(packet);
+        let k = parts::text_length(packet);
         parts::part(packet, from, k)
     } else {
         &packet[0..0]

@@ -152,6 +152,14 @@ pub(crate) fn count(b: &[u8]) -> usize
     count_in(form(b), b, q, content_size(b))
 }
 
+// The bytes of the text: as many as its length says, whatever they are.
+pub(crate) fn text_length(b: &[u8]) -> usize
+    ensures { λ r. ⌜ r ≡ countOf (now (b .entry)) ⌝ }
+{
+    let whole = count(b);
+    whole
+}
+
 pub(crate) fn lead(b: &[u8]) -> usize
     ensures { λ r. ⌜ (r ≡ partAt (rowOf (formIn (now (b .entry))))) × (r ≤ 160) ⌝ }
 {

@@ -18,8 +18,8 @@ mul-from c = search needs
 add-from : tie.Need-add-from
 add-from c = search needs
 
-count-requires : tie.Need-count-requires
-count-requires c κs = search needs
+text-length-requires : tie.Need-text-length-requires
+text-length-requires c κs = search needs
 
 part-requires : tie.Need-part-requires
 part-requires c κs = search needs
@@ -38,7 +38,7 @@ unfolding textOf
 returns c =
     let b = now (c .before .before .before .before .before .before .args .packet) in
     let e : textAnswer b ≡ 0 = sym (c .before .before .before .before .text-answer .ensures) ∙ c .before .before .before .if1 .taken in
-    c .part .ensures ∙ rw (e, c .before .count .ensures, c .before .before .codes-count .ensures .0)
+    c .part .ensures ∙ rw (e, c .before .text-length .ensures, c .before .before .codes-count .ensures .0)
 
 returns-2 : tie.Need-returns-2
 unfolding textOf
@@ -55,7 +55,7 @@ text-spec =
     codes-count-requires
     mul-from
     add-from
-    count-requires
+    text-length-requires
     part-requires
     sub-result
     part-result-start
