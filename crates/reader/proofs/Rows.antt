@@ -21,9 +21,10 @@ use Rattle.packet.specs.declared.Form.{Form}
 use Rattle.packet.specs.declared.Form.the-variants.{Frequencies, Address, Keep, Clock, Reset, Factory, Drill, Text, Command, Hold, Raw, Unknown}
 use Rattle.packet.specs.declared.Sort.{Sort}
 use Rattle.packet.specs.declared.Sort.the-variants as sort
-use Rattle.packet.specs.Table.{rowOf, countLine, code}
+use Rattle.packet.specs.Table.{rowOf, code}
 use Rattle.packet.specs.Content.{numbersIn}
 use Rattle.packet.specs.Reading.{partAt, numbersAt, zeros, padded}
+use Rattle.packet.proofs.Sizes.{countSize, count-size}
 use Rattle.reader.specs.Sound.{sound}
 
 pub record Good (f : Form) : Type 0 where
@@ -48,20 +49,6 @@ good Command = record { before = refl; each = refl; after = refl; lead = omega a
 good Hold = record { before = refl; each = refl; after = refl; lead = omega arith; row = omega arith; rest = omega arith }
 good Raw = record { before = refl; each = refl; after = refl; lead = omega arith; row = omega arith; rest = omega arith }
 good Unknown = record { before = refl; each = refl; after = refl; lead = omega arith; row = omega arith; rest = omega arith }
-
--- the count has 8 bits where there is one
-abbrev pub countSize : Sort → ℕ
-countSize sort.Fixed = 0
-countSize sort.Counted = 8
-countSize sort.Raw = 0
-countSize sort.Unknown = 0
-
-pub count-size : (s : Sort) (k : ℕ) → size (countLine s k) ≡ countSize s
-unfolding size
-count-size sort.Fixed k = refl
-count-size sort.Counted k = refl
-count-size sort.Raw k = refl
-count-size sort.Unknown k = refl
 
 pub lead-is : (f : Form) (s : Sort) → rowOf f .sort ≡ s → partAt (rowOf f) ≡ size (rowOf f .before) + countSize s
 unfolding partAt

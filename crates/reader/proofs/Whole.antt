@@ -10,26 +10,20 @@ use lib.ListN.{length}
 use borrow.Author.Tests.{lt-leb, le-leb, ne-eqb, eq-eqb, leb-true, eqb-true, not-false}
 use Rattle.laws.specs.Bits.{at, bits}
 use Rattle.laws.specs.Scan.{all}
-use Rattle.laws.specs.Refusals.{Case, first}
+use Rattle.laws.specs.Refusals.{first}
 use Rattle.laws.proofs.Bits.{at-small}
 use Rattle.laws.proofs.Cases.{and-both}
+use Rattle.laws.proofs.Passed.{first-no}
 use Rattle.format.specs.declared.Line.{Line}
 use Rattle.format.specs.Format.{times, size, decode, fine}
-use Rattle.format.proofs.Tables.{fine-append, size-append, size-times, apart-fine}
+use Rattle.format.proofs.Tables.{fine-append, size-times, apart-fine}
 use Rattle.packet.specs.declared.Form.{Form}
 use Rattle.packet.specs.declared.Sort.{Sort}
 use Rattle.packet.specs.declared.Sort.the-variants as sort
 use Rattle.packet.specs.Table.{Row, rowOf, countLine, countIn, contentLines, code, ending, packet}
 use Rattle.packet.specs.Reading.{kindIn, lengthIn, codesIn, formIn, contentAt, contentSize, countOf, partAt, tableOf, valuesIn, sizeBad, lengthBad, isUnknown, fieldBad, readAnswer, textAnswer, openedBy, refusedAs, partBy}
 use Rattle.packet.proofs.Forms.{below-not}
-use Rattle.reader.proofs.Rows.{count-size}
-
--- ---- sizes
-pub content-size : (r : Row) (k : ℕ) → size (contentLines r k) ≡ partAt r + k * size (r .each) + size (r .after)
-unfolding contentLines partAt
-content-size r k =
-    let L = countLine (r .sort) k in
-    omega (arith, size-append (r .before) (L ++ (times k (r .each) ++ r .after)), size-append L (times k (r .each) ++ r .after), size-append (times k (r .each)) (r .after), size-times k (r .each), count-size (r .sort) k, count-size (r .sort) 0)
+use Rattle.packet.proofs.Sizes.{count-size, content-size}
 
 -- ---- answer 20
 pub short : (b : List ℕ) → length b < 77 → true ≡ sizeBad b
@@ -139,14 +133,9 @@ pub row-fits : (k w : ℕ) → k < 256 → w ≤ 40 → k * w ≤ 10200
 row-fits k w h g = le-trans (mul-le-mul-left k g) (omega arith)
 
 -- ---- an accepted packet, and a refused one
-first-no : (t : Bool) (n : ℕ) (cs : List Case) → (n ≡ 0 → ⊥) → first ((t, n) ∷ cs) ≡ 0 → t ≡ false
-unfolding first
-first-no true n cs h e = absurd (h e)
-first-no false n cs h e = refl
-
 pub no-size : (b : List ℕ) → readAnswer b ≡ 0 → sizeBad b ≡ false
 unfolding readAnswer
-no-size b e = first-no (sizeBad b) 20 _ (λ h. omega arith) e
+no-size b e = first-no (sizeBad b) 20 _ (λ h. omega arith) e .0
 
 pub not-opened : (a : ℕ) (b : List ℕ) → (a ≡ 0 → ⊥) → openedBy a b ≡ refusedAs a
 not-opened zero b h = absurd (h refl)
@@ -193,7 +182,3 @@ pub content-here : (a : ℕ) (b : List ℕ) (f : Form) (k n : ℕ) → f ≡ for
     → fine a (contentLines (rowOf f) k) (decode (contentLines (rowOf f) k) (bits b) (24 + 96 * n))
     ≡ fine a (contentLines (rowOf (formIn b)) (countOf b)) (decode (contentLines (rowOf (formIn b)) (countOf b)) (bits b) (contentAt b))
 content-here a b f k n e h i = rw (e, h, i)
-
-pub nothing : first [] ≡ 0
-unfolding first
-nothing = refl

@@ -15,6 +15,7 @@ use Rattle.laws.specs.Scan.{all}
 use Rattle.laws.specs.Refusals.{first}
 use Rattle.laws.proofs.Bits.{Under, at-small}
 use Rattle.laws.proofs.Cases.{and-left, and-both, if-yes, if-no, and-yes, and-no}
+use Rattle.laws.proofs.Passed.{first-no, no-case}
 use Rattle.laws.proofs.Refusals.{pass, stop}
 use Rattle.laws.proofs.Writes.{from-front}
 use Rattle.format.specs.declared.Line.{Line}
@@ -33,11 +34,12 @@ use Rattle.packet.specs.Content.{contentOf, formFor, numbersOf, numbersIn, coun
 use Rattle.packet.specs.Reading.{kindIn, lengthIn, codesIn, formIn, contentAt, contentSize, countOf, partAt, tableOf, valuesIn, numbersAt, frontIn, bodyIn, backIn, contentIn, digitsIn, zeros, padded, codesOf, hasEntries, fieldsOf, sizeBad, lengthBad, isUnknown, readAnswer, openedBy, opened, partBy, bodyOf}
 use Rattle.packet.specs.Writing.{rowFor, digitsBefore, digitsAfter, frontFor, backFor, bodyFor, sizeFor, tableFor, numbersFor, valuesFor, bytesFor, lentBad, countBad, digitBad, otherType, bodyLost, digitsLost, notTaken, writtenAnswer, outputBy, outputOf}
 use Rattle.packet.proofs.Forms as forms
+use Rattle.packet.proofs.Sizes.{content-size}
 use Rattle.trips.proofs.Parts as parts
 use Rattle.trips.proofs.Fitting as fitting
 use Rattle.trips.proofs.Contents as contents
 use Rattle.trips.proofs.Octets.{octets-at, run-bytes}
-use Rattle.trips.proofs.There.{octet-size, no-case}
+use Rattle.trips.proofs.There.{octet-size}
 
 -- ---- a clause a kind
 -- a content of a known kind is of that kind
@@ -223,12 +225,12 @@ pub record Accepted (b : List ℕ) : Type 0 where
 pub accepted : (b : List ℕ) → readAnswer b ≡ 0 → Accepted b
 unfolding readAnswer sizeBad lengthBad
 accepted b e =
-    let p = fitting.first-no _ 20 _ (λ h. omega arith) e in
-    let q = fitting.first-no (isUnknown (formIn b)) 23 _ (λ h. omega arith) (p .1) in
-    let r = fitting.first-no _ 26 _ (λ h. omega arith) (q .1) in
-    let s = fitting.first-no _ 24 _ (λ h. omega arith) (r .1) in
-    let t = fitting.first-no _ 25 _ (λ h. omega arith) (s .1) in
-    let w = fitting.first-no _ 27 _ (λ h. omega arith) (t .1) in
+    let p = first-no _ 20 _ (λ h. omega arith) e in
+    let q = first-no (isUnknown (formIn b)) 23 _ (λ h. omega arith) (p .1) in
+    let r = first-no _ 26 _ (λ h. omega arith) (q .1) in
+    let s = first-no _ 24 _ (λ h. omega arith) (r .1) in
+    let t = first-no _ 25 _ (λ h. omega arith) (s .1) in
+    let w = first-no _ 27 _ (λ h. omega arith) (t .1) in
     let p1 = and-both (leb 77 (length b) && leb (length b) 250) _ (not-false _ (p .0)) in
     let p2 = and-both (leb 77 (length b)) (leb (length b) 250) (p1 .0) in
     let p3 = and-both (eqb (length b) (lengthIn b + 2)) (leb (77 + 12 * codesIn b) (length b)) (p1 .1) in
@@ -330,7 +332,7 @@ body-right r b k body q m h n = go (r .sort) refl
 entries-few : (f : Form) (k : ℕ) (body : List ℕ) (m : ℕ) → f ≡ Frequencies → size (contentLines (rowOf f) k) ≡ 8 * m → length body ≡ k * need (rowOf f .each) → m ≤ 173 → length body + 0 ≤ 272
 unfolding size need partAt
 entries-few f k body m e h n l =
-    let s : size (contentLines (rowOf Frequencies) k) ≡ 8 + k * 40 + 0 = parts.content-size (rowOf Frequencies) k in
+    let s : size (contentLines (rowOf Frequencies) k) ≡ 8 + k * 40 + 0 = content-size (rowOf Frequencies) k in
     let s1 : size (contentLines (rowOf f) k) ≡ 8 + k * 40 + 0 = ap (λ (g : Form). size (contentLines (rowOf g) k)) e ∙ s in
     let n1 : length body ≡ k * 8 = n ∙ ap (λ (g : Form). k * need (rowOf g .each)) e in
     omega arith
@@ -572,7 +574,7 @@ module _ (b : List ℕ) (z : Accepted b) where
           let r1 : rowOf (formIn b) .each ≡ octets 1 ∷ [] = ap (λ (f : Form). rowOf f .each) (sym form-is) ∙ r in
           let p : contentAt b + partAt (rowOf (formIn b)) ≡ 8 * s = omega (arith, g .even1) in
           let m : k * size (rowOf (formIn b) .each) ≡ k * 8 = ap (λ (x : ℕ). k * x) (ap size r1 ∙ octet-size) in
-          let i : s + k ≤ length b = omega (arith, z .right, z .least, parts.content-size (rowOf (formIn b)) k, g .even1, m) in
+          let i : s + k ≤ length b = omega (arith, z .right, z .least, content-size (rowOf (formIn b)) k, g .even1, m) in
           sym (ap₂ (λ (T : List Line) (x : ℕ). numbersAt (times k T) b x) r1 p ∙ octets-at b k (8 * s) ∙ run-bytes b s k u i)
 
 -- ---- the theorem

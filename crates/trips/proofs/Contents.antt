@@ -19,7 +19,7 @@ use Rattle.packet.specs.declared.Form.the-variants.{Frequencies, Address, Keep,
 use Rattle.packet.specs.declared.Content.{Content}
 use Rattle.packet.specs.declared.Content.the-variants as content
 use Rattle.packet.specs.Table.{rowOf, countLine, countIn, contentLines}
-use Rattle.trips.proofs.Parts.{content-size}
+use Rattle.packet.proofs.Sizes.{content-size}
 use Rattle.packet.specs.Content.{contentOf, formFor, numbersOf, numbersIn, countFor}
 use Rattle.packet.specs.Reading.{partAt, hasEntries}
 use Rattle.packet.specs.Writing.{rowFor, digitsBefore, digitsAfter}

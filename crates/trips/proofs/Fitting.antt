@@ -9,7 +9,6 @@ use lib.Seq.{length-take-le, take-at, drop-at}
 use lib.Dec.{leb, ltb, eqb}
 use borrow.Author.Tests.{leb-true, ltb-true}
 use Rattle.laws.specs.Scan.{all}
-use Rattle.laws.specs.Refusals.{Case, first}
 use Rattle.laws.proofs.Bits.{Under}
 use Rattle.laws.proofs.Cases.{and-both, if-yes}
 use Rattle.format.specs.declared.Line.{Line}
@@ -22,12 +21,6 @@ cut a a′ b b′ n e = (
   sym (take-at a b (length a) refl) ∙ ap (take (length a)) e ∙ take-at a′ b′ (length a) (sym n),
   sym (drop-at a b (length a) refl) ∙ ap (drop (length a)) e ∙ drop-at a′ b′ (length a) (sym n),
 )
-
--- ---- a list of cases of which none holds
-pub first-no : (t : Bool) (n : ℕ) (cs : List Case) → (n ≡ 0 → ⊥) → first ((t, n) ∷ cs) ≡ 0 → (t ≡ false) × (first cs ≡ 0)
-unfolding first
-first-no true n cs h e = absurd (h e)
-first-no false n cs h e = (refl, e)
 
 -- what a joined test that fails tells
 pub or-both : (a b : Bool) → (a || b) ≡ false → (a ≡ false) × (b ≡ false)

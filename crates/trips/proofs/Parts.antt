@@ -17,22 +17,9 @@ use Rattle.packet.specs.declared.Sort.{Sort}
 use Rattle.packet.specs.declared.Sort.the-variants as sort
 use Rattle.packet.specs.Table.{Row, countLine, contentLines, code, ending, packet}
 use Rattle.packet.specs.Reading.{partAt}
+use Rattle.packet.proofs.Sizes.{count-size}
 
 -- ---- sizes
--- the count has 8 bits where there is one, and no numbers of its own
-abbrev pub countSize : Sort → ℕ
-countSize sort.Fixed = 0
-countSize sort.Counted = 8
-countSize sort.Raw = 0
-countSize sort.Unknown = 0
-
-pub count-size : (s : Sort) (k : ℕ) → size (countLine s k) ≡ countSize s
-unfolding size
-count-size sort.Fixed k = refl
-count-size sort.Counted k = refl
-count-size sort.Raw k = refl
-count-size sort.Unknown k = refl
-
 pub count-need : (s : Sort) (k : ℕ) → need (countLine s k) ≡ 0
 unfolding need
 count-need sort.Fixed k = refl
@@ -46,12 +33,6 @@ count-flat sort.Fixed k l p = refl
 count-flat sort.Counted k l p = refl
 count-flat sort.Raw k l p = refl
 count-flat sort.Unknown k l p = refl
-
-pub content-size : (r : Row) (k : ℕ) → size (contentLines r k) ≡ partAt r + k * size (r .each) + size (r .after)
-unfolding contentLines partAt
-content-size r k =
-    let L = countLine (r .sort) k in
-    omega (arith, size-append (r .before) (L ++ (times k (r .each) ++ r .after)), size-append L (times k (r .each) ++ r .after), size-append (times k (r .each)) (r .after), size-times k (r .each), count-size (r .sort) k, count-size (r .sort) 0)
 
 pub content-need : (r : Row) (k : ℕ) → need (contentLines r k) ≡ need (r .before) + k * need (r .each) + need (r .after)
 unfolding contentLines

@@ -15,6 +15,7 @@ use Rattle.laws.specs.Scan.{all}
 use Rattle.laws.specs.Refusals.{first}
 use Rattle.laws.proofs.Bits.{Under, length-run, under-run}
 use Rattle.laws.proofs.Cases.{and-both, if-yes, if-no, and-yes}
+use Rattle.laws.proofs.Passed.{first-no, no-case}
 use Rattle.laws.proofs.Refusals.{pass}
 use Rattle.laws.proofs.Writes.{from-front}
 use Rattle.format.specs.declared.Line.{Line}
@@ -33,6 +34,7 @@ use Rattle.packet.specs.Content.{formFor, numbersOf, numbersIn, countFor, noSuc
 use Rattle.packet.specs.Reading.{kindIn, lengthIn, codesIn, formIn, contentAt, contentSize, countOf, partAt, tableOf, valuesIn, numbersAt, frontIn, bodyIn, backIn, contentIn, digitsIn, zeros, padded, codesOf, hasEntries, fieldsOf, sizeBad, lengthBad, isUnknown, readAnswer, opened, bodyOf}
 use Rattle.packet.specs.Writing.{rowFor, digitsBefore, digitsAfter, frontFor, backFor, bodyFor, sizeFor, tableFor, numbersFor, valuesFor, bytesFor, lentBad, countBad, digitBad, otherType, bodyLost, digitsLost, notTaken, writtenAnswer, outputOf}
 use Rattle.packet.proofs.Forms as forms
+use Rattle.packet.proofs.Sizes.{content-size}
 use Rattle.trips.proofs.Parts as parts
 use Rattle.trips.proofs.Octets.{octets-at, run-bytes, under-take, under-drop}
 use Rattle.trips.proofs.Fitting as fitting
@@ -55,11 +57,11 @@ pub record Taken (f : Fields) (codes body : List ℕ) : Type 0 where
 pub taken : (f : Fields) (codes body : List ℕ) (room : ℕ) → writtenAnswer f codes body room ≡ 0 → Taken f codes body
 unfolding writtenAnswer countBad digitBad notTaken
 taken f codes body room e =
-    let a = fitting.first-no (isUnknown (formOf (f .kind))) 23 _ (λ h. omega arith) e in
-    let b = fitting.first-no _ 26 _ (λ h. omega arith) (a .1) in
-    let d = fitting.first-no _ 25 _ (λ h. omega arith) (b .1) in
-    let g = fitting.first-no _ 27 _ (λ h. omega arith) (d .1) in
-    let h = fitting.first-no (ltb 250 (sizeFor f body)) 20 _ (λ h. omega arith) (g .1) in
+    let a = first-no (isUnknown (formOf (f .kind))) 23 _ (λ h. omega arith) e in
+    let b = first-no _ 26 _ (λ h. omega arith) (a .1) in
+    let d = first-no _ 25 _ (λ h. omega arith) (b .1) in
+    let g = first-no _ 27 _ (λ h. omega arith) (d .1) in
+    let h = first-no (ltb 250 (sizeFor f body)) 20 _ (λ h. omega arith) (g .1) in
     let b1 = fitting.or-both (not (leb (f .codes) 255 && eqb (length codes) (f .codes * 23))) _ (b .0) in
     let b2 = and-both (leb (f .codes) 255) (eqb (length codes) (f .codes * 23)) (not-false _ (b1 .0)) in
     let d1 = fitting.or-both (not (fine 25 (tableFor f body) (valuesFor f codes body))) _ (d .0) in
@@ -99,7 +101,7 @@ even-mul k s e =
 pub content-even : (f : Form) (k : ℕ) → size (contentLines (rowOf f) k) % 8 ≡ 0
 content-even f k =
     let g = contents.fair f in
-    omega (arith, parts.content-size (rowOf f) k, g .even1, g .even3, even-mul k (size (rowOf f .each)) (g .even2))
+    omega (arith, content-size (rowOf f) k, g .even1, g .even3, even-mul k (size (rowOf f .each)) (g .even2))
 
 -- a type of a known kind has five bits
 pub type-small : (t : ℕ) → isUnknown (formOf t) ≡ false → t < 32
@@ -188,10 +190,6 @@ code-apart = refl
 pub octet-size : size (octets 1 ∷ []) ≡ 8
 unfolding size
 octet-size = refl
-
-pub no-case : first [] ≡ 0
-unfolding first
-no-case = refl
 
 nil : (l : List ℕ) → length l ≡ 0 → l ≡ []
 nil [] h = refl
@@ -461,7 +459,7 @@ module _ (f : Fields) (codes body : List ℕ) (a : Taken f codes body) (y : Fitt
       let c = f .content in
       let k = countFor c body in
       let m : k * size (rowFor c .each) ≡ k * 8 = ap (λ (x : ℕ). k * x) w in
-      omega (arith, long, parts.content-size (rowFor c) k, contents.fair (formFor c) .even1, m)
+      omega (arith, long, content-size (rowFor c) k, contents.fair (formFor c) .even1, m)
 
   body-is : bodyOf (bytesFor f codes body) ≡ cond (hasEntries (formFor (f .content))) [] body
   unfolding bodyOf

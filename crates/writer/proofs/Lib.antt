@@ -8,3 +8,7 @@ pub mod Shapes
 pub mod Whole
 pub mod Together
 pub mod Inside
+pub mod Fine
+pub mod Rules
+pub mod Digits
+pub mod Taken

@@ -1,10 +1,10 @@
 -- A packet is its head, codes, content and ending, one behind the other. Assumes nothing.
-use mathlib.Core.Path.{_≡_, refl, sym, ap, ap₂, _∙_, subst}
-use mathlib.Core.Bool.{Bool, true}
-use mathlib.Core.List.{List, [], _∷_, _++_, append-assoc, append-nil}
-use Prim.Native.Nat.{ℕ, suc, _+_, _-_, _*_, _/_, _<_, _≤_}
+use mathlib.Core.Path.{_≡_, refl, sym, ap, _∙_}
+use mathlib.Core.Bool.{true}
+use mathlib.Core.List.{List, _∷_, _++_, append-assoc, append-nil}
+use Prim.Native.Nat.{ℕ, _-_, _*_, _≤_}
 use native.Mathlib.Omega.{arith}
-use lib.ListN.{length, take, drop, replicate, length-append}
+use lib.ListN.{length, replicate, length-append}
 use lib.Seq.{sets, take-at, drop-at, take-all}
 use Rattle.laws.specs.Bits.{bits, bitsOf, spread}
 use Rattle.laws.specs.Scan.{all}
@@ -18,11 +18,11 @@ use Rattle.packet.specs.Table.{code, ending, packet, contentLines, countLine}
 use Rattle.packet.specs.Content.{formFor, countFor}
 use Rattle.packet.specs.Writing.{rowFor, frontFor, backFor, bodyFor, sizeFor, tableFor, numbersFor, valuesFor}
 use Rattle.writer.specs.Puts.{sound, After}
-use Rattle.writer.specs.Parts.{frontSize, bodySize, linesFor, contentBits, contentSize, headBits, endingBits, Lent, Counts}
+use Rattle.writer.specs.Parts.{linesFor, contentBits, contentSize, headBits, endingBits, Lent, Counts}
 use Rattle.writer.proofs.Rows.{encode-size}
-use Rattle.writer.proofs.Contents.{small, length-front, length-back, body-whole}
+use Rattle.writer.proofs.Contents.{small, length-front, length-back}
 use Rattle.writer.proofs.Shapes.{then-put}
-use Rattle.writer.proofs.Whole.{two, count-needs, content-sizes, front-small, body-small}
+use Rattle.writer.proofs.Whole.{two, count-needs, content-sizes, front-small, body-small, bodied}
 
 -- ---- a code's row
 pub code-sound : all sound code ≡ true
@@ -48,7 +48,7 @@ size-least f body = omega arith
 
 pub content-small : (c : Content) (body : List ℕ) → Lent c body → contentSize c body ≤ 10456
 content-small c body h =
-    omega (arith, content-sizes c (replicate 35 0) body refl h, front-small c (countFor c body), body-small c body h, small (formFor c) .after-size)
+    omega (arith, content-sizes c (replicate 35 0) body refl (bodied c body h), front-small c (countFor c body), body-small c body h, small (formFor c) .after-size)
 
 -- ---- the head
 head-long : (kind p n : ℕ) → length (headBits kind p n) ≡ 24
@@ -74,7 +74,7 @@ module _ (f : Fields) (codes body : List ℕ) (h : Counts f codes body) (d : len
   abbrev tail : List ℕ
   tail = f .time ∷ (f .certificate ++ f .signature)
 
-  middle-long : length middle ≡ need (linesFor c body)
+  pub middle-long : length middle ≡ need (linesFor c body)
   unfolding contentLines
   middle-long =
       let k = countFor c body in
@@ -84,8 +84,7 @@ module _ (f : Fields) (codes body : List ℕ) (h : Counts f codes body) (d : len
         length-append (bodyFor c body) (backFor c (f .digits)),
         length-front c (f .digits) d,
         length-back c (f .digits) d,
-        ap length (body-whole c body (h .lent)),
-        h .lent .numbers,
+        h .bodied,
         need-append (rowFor c .before) (countLine (rowFor c .sort) k ++ (times k (rowFor c .each) ++ rowFor c .after)),
         need-append (countLine (rowFor c .sort) k) (times k (rowFor c .each) ++ rowFor c .after),
         need-append (times k (rowFor c .each)) (rowFor c .after),
@@ -98,7 +97,7 @@ module _ (f : Fields) (codes body : List ℕ) (h : Counts f codes body) (d : len
   ending-bits =
       rw (take-at (f .certificate) (f .signature) 12 lc, drop-at (f .certificate) (f .signature) 12 lc, take-all 64 (f .signature) (omega arith), append-nil (bitsOf 32 (f .time)), append-nil (spread 8 (f .signature)))
 
-  in-order : numbersFor f codes body ≡ codes ++ (middle ++ tail)
+  pub in-order : numbersFor f codes body ≡ codes ++ (middle ++ tail)
   unfolding numbersFor
   in-order =
       ap (λ (l : List ℕ). codes ++ l)

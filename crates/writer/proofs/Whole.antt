@@ -1,17 +1,15 @@
 -- A content and a packet are their parts, one behind the other. Assumes nothing.
 use mathlib.Core.Path.{_≡_, refl, sym, ap, ap₂, _∙_}
-use mathlib.Core.Bool.{Bool, true}
-use mathlib.Core.List.{List, [], _∷_, _++_, append-assoc, append-nil}
-use Prim.Native.Nat.{ℕ, suc, _+_, _-_, _*_, _/_, _<_, _≤_}
+use mathlib.Core.List.{List, [], _++_, append-assoc}
+use Prim.Native.Nat.{ℕ, _+_, _-_, _≤_}
 use native.Mathlib.Nat.{le-trans, mul-le-mul-left}
 use native.Mathlib.Omega.{arith}
-use lib.ListN.{length, take, length-append}
-use lib.Seq.{sets}
+use lib.ListN.{length, length-append}
 use Rattle.laws.specs.Bits.{bits, bitsOf, spread}
 use Rattle.laws.proofs.Bits.{length-bitsOf, length-spread}
 use Rattle.format.specs.declared.Line.{Line}
-use Rattle.format.specs.Format.{just, size, need, encode, fill, times}
-use Rattle.format.proofs.Tables.{fill-join, encode-join, length-fill, size-append, size-times, need-append, need-times}
+use Rattle.format.specs.Format.{size, need, encode, fill, times}
+use Rattle.format.proofs.Tables.{fill-join, encode-join, length-fill, size-append, size-times, need-times}
 use Rattle.packet.specs.declared.Sort.{Sort}
 use Rattle.packet.specs.declared.Sort.the-variants as sort
 use Rattle.packet.specs.declared.Content.{Content}
@@ -19,7 +17,7 @@ use Rattle.packet.specs.Table.{countLine, contentLines}
 use Rattle.packet.specs.Content.{formFor, countFor}
 use Rattle.packet.specs.Writing.{rowFor, frontFor, backFor, bodyFor}
 use Rattle.writer.specs.Puts.{After}
-use Rattle.writer.specs.Parts.{frontBits, frontSize, bodyBits, bodySize, backBits, linesFor, contentBits, contentSize, headBits, endingBits, Lent}
+use Rattle.writer.specs.Parts.{frontBits, frontSize, bodyBits, bodySize, backBits, contentBits, contentSize, headBits, endingBits, Lent, Bodied}
 use Rattle.writer.proofs.Rows.{encode-size}
 use Rattle.writer.proofs.Contents.{small, length-front, body-whole}
 use Rattle.writer.proofs.Shapes.{then-put}
@@ -36,12 +34,12 @@ count-needs sort.Unknown k = refl
 pub two : (A B : List Line) (x y : List ℕ) → length x ≡ need A → encode (A ++ B) (fill (A ++ B) (x ++ y)) ≡ encode A (fill A x) ++ encode B (fill B y)
 two A B x y e = ap (encode (A ++ B)) (fill-join A B x y e) ∙ encode-join A B (fill A x) (fill B y) (length-fill A x)
 
-module _ (c : Content) (ds body : List ℕ) (d : length ds ≡ 35) (h : Lent c body) where
+module _ (c : Content) (ds body : List ℕ) (d : length ds ≡ 35) (h : Bodied c body) where
   abbrev k : ℕ
   k = countFor c body
 
   length-body : length (bodyFor c body) ≡ need (times k (rowFor c .each))
-  length-body = ap length (body-whole c body h) ∙ h .numbers ∙ sym (need-times k (rowFor c .each))
+  length-body = h ∙ sym (need-times k (rowFor c .each))
 
   pub content-parts : contentBits c ds body ≡ frontBits c ds k ++ (bodyBits c body ++ backBits c ds)
   unfolding contentBits contentLines frontBits bodyBits backBits
@@ -79,6 +77,10 @@ module _ (c : Content) (ds body : List ℕ) (d : length ds ≡ 35) (h : Lent c b
       rw (content-parts, content-sizes)
       (then-put out a last p q r (frontBits c ds k) (bodyBits c body ++ backBits c ds) (frontSize c k) (bodySize c body + size (rowFor c .after)) front-long x
       (then-put a b last q e r (bodyBits c body) (backBits c ds) (bodySize c body) (size (rowFor c .after)) body-long y z))
+
+-- what is lent in full is enough
+pub bodied : (c : Content) (body : List ℕ) → Lent c body → Bodied c body
+bodied c body h = ap length (body-whole c body h) ∙ h .numbers
 
 -- ---- sizes
 count-small : (s : Sort) (k : ℕ) → size (countLine s k) ≤ 8

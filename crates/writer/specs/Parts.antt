@@ -51,13 +51,17 @@ headBits kind p n = bitsOf 5 kind ++ (bitsOf 11 (p - 2) ++ bitsOf 8 n)
 unfoldable pub endingBits : ℕ → List ℕ → List ℕ → List ℕ
 endingBits time certificate signature = bitsOf 32 time ++ (spread 4 certificate ++ spread 8 signature)
 
+-- as much of the body as the content's rows need
+abbrev pub Bodied : Content → List ℕ → Type 0
+Bodied c body = length (bodyFor c body) ≡ countFor c body * need (rowFor c .each)
+
 -- counts that are those of what is lent
 pub record Counts (f : Fields) (codes body : List ℕ) : Type 0 where
-  pub lent : Lent (f .content) body
+  pub bodied : Bodied (f .content) body
   pub coded : length codes ≡ f .codes * 23
-  pub few : f .codes ≤ 255
 
--- fields that can be written: besides, the packet is not too long
+-- fields that can be written: besides, all of the body is the content's, and the packet is not too long
 pub record Writable (f : Fields) (codes body : List ℕ) : Type 0 where
   pub counts : Counts f codes body
+  pub lent : Lent (f .content) body
   pub small : sizeFor f body ≤ 250

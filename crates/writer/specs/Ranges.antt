@@ -1,9 +1,16 @@
 -- The ranges of a content's numbers, one by one: what answer 27 asks of the first lines of its row.
-use mathlib.Core.Bool.{Bool, true, _&&_}
-use Prim.Native.Nat.{ℕ}
-use lib.Dec.{leb}
+use mathlib.Core.Bool.{Bool, true, false, not, _&&_, _||_}
+use mathlib.Core.List.{List}
+use Prim.Native.Nat.{ℕ, _+_, _*_}
+use lib.Dec.{leb, eqb}
+use Rattle.format.specs.Format.{fine, fill, times}
+use Rattle.packet.specs.declared.Sort.{Sort}
+use Rattle.packet.specs.declared.Sort.the-variants as sort
 use Rattle.packet.specs.declared.Content.{Content}
 use Rattle.packet.specs.declared.Content.the-variants as content
+use Rattle.packet.specs.declared.Fields.{Fields}
+use Rattle.packet.specs.Content.{countFor}
+use Rattle.packet.specs.Writing.{rowFor, bodyFor, otherType, bodyLost, digitsLost}
 
 abbrev pub within : ℕ → ℕ → ℕ → Bool
 within x lo hi = leb lo x && leb x hi
@@ -24,3 +31,49 @@ rangeFine (content.Drill action) = within action 1 2
 rangeFine (content.Text kind set t) = within kind 1 3 && within set 0 4
 rangeFine (content.Command k) = true
 rangeFine (content.Hold serial) = true
+
+-- ---- what the counts ask, where so many numbers are lent
+abbrev pub lostOf : Sort → ℕ → Bool
+lostOf sort.Fixed lent = not (eqb lent 0)
+lostOf sort.Counted lent = false
+lostOf sort.Raw lent = false
+lostOf sort.Unknown lent = false
+
+-- rows of w numbers
+abbrev pub rowsBad : ℕ → ℕ → ℕ → Bool
+rowsBad k w lent = not (leb k 255 && eqb lent (k * w))
+
+abbrev pub badOf : Content → ℕ → Bool
+badOf content.Raw lent = false
+badOf (content.Frequencies k) lent = rowsBad k 8 lent
+badOf (content.Address m) lent = rowsBad m 1 lent
+badOf (content.Keep on period) lent = false
+badOf (content.Clock year month day hour minute second) lent = false
+badOf (content.Reset change) lent = false
+badOf content.Factory lent = false
+badOf (content.Drill action) lent = false
+badOf (content.Text kind set t) lent = rowsBad t 1 lent
+badOf (content.Command k) lent = rowsBad k 1 lent
+badOf (content.Hold serial) lent = false
+
+-- the bytes of a content, by the column of paper 01's table
+abbrev pub bytesOf : Content → ℕ → ℕ
+bytesOf content.Raw lent = lent
+bytesOf (content.Frequencies k) lent = 1 + 5 * k
+bytesOf (content.Address m) lent = 13 + m
+bytesOf (content.Keep on period) lent = 3
+bytesOf (content.Clock year month day hour minute second) lent = 7
+bytesOf (content.Reset change) lent = 4
+bytesOf content.Factory lent = 1
+bytesOf (content.Drill action) lent = 19
+bytesOf (content.Text kind set t) lent = 20 + t
+bytesOf (content.Command k) lent = 1 + k
+bytesOf (content.Hold serial) lent = 2
+
+-- ---- answer 27, in two parts: what could not be handed back, and what is repeated
+unfoldable pub somethingLost : Fields → List ℕ → Bool
+somethingLost f body =
+    otherType f || (bodyLost (rowFor (f .content) .sort) body || (digitsLost (f .content) (f .digits) || (eqb (f .kind) 1 && not (eqb (f .codes) 0))))
+
+abbrev pub rowsFine : ℕ → Content → List ℕ → Bool
+rowsFine a c body = fine a (times (countFor c body) (rowFor c .each)) (fill (times (countFor c body) (rowFor c .each)) (bodyFor c body))

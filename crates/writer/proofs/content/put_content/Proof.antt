@@ -6,41 +6,29 @@ use Rattle.packet.specs.Content.{countFor}
 use Rattle.writer.specs.Puts.{After}
 use Rattle.writer.specs.Parts.{frontBits, frontSize}
 use Rattle.writer.proofs.Contents.{count-same}
-use Rattle.writer.proofs.Whole.{content-put, front-small, body-small}
+use Rattle.writer.proofs.Whole.{content-put, bodied, front-small, body-small}
 use borrow.Author.Needs.{needs}
 use Rattle.writer.proofs.content.put_content.Statement.{statement}
 use Rattle.writer.proofs.content.put_content.Tie as tie
-use Rattle.writer.proofs.content.put_content.Reads as reads
-use Rattle.writer.proofs.content.put_content.Lts as lts
-use Rattle.writer.proofs.content.count_for.Reads as count-for-reads
-use Rattle.writer.proofs.content.put_back.Reads as put-back-reads
-use Rattle.writer.proofs.content.put_body.Reads as put-body-reads
-use Rattle.writer.proofs.content.put_front.Reads as put-front-reads
 
--- src/content.rt:228:9
 count-for-requires : tie.Need-count-for-requires
 count-for-requires c κs = search needs
 
--- src/content.rt:229:9
 put-front-requires : tie.Need-put-front-requires
 put-front-requires c κs =
     let e = c .before .count-for .ensures ∙ count-same (c .before .before .before .before .args .c) (c .before .before .before .before .args .body .now) in
     (omega (arith, c .before .before .before .before .pre .0 .few), omega (arith, c .before .before .before .before .pre .1))
 
--- src/content.rt:230:9
 put-body-requires : tie.Need-put-body-requires
 put-body-requires c κs = (c .before .before .before .before .before .before .before .before .pre .0, omega (arith, c .before .before .before .put-front .ensures .place, front-small (c .before .before .before .before .before .before .before .before .args .c) (c .before .before .before .before .before .count-for .result), c .before .before .before .before .before .before .before .before .pre .1))
 
--- src/content.rt:231:5
 put-back-requires : tie.Need-put-back-requires
 put-back-requires c κs =
     omega (arith, c .before .before .before .put-body .ensures .place, c .before .before .before .before .before .before .before .put-front .ensures .place, front-small (c .before .before .before .before .before .before .before .before .before .before .before .before .args .c) (c .before .before .before .before .before .before .before .before .before .count-for .result), body-small (c .before .before .before .before .before .before .before .before .before .before .before .before .args .c) (c .before .before .before .before .before .before .before .before .before .before .before .before .args .body .now) (c .before .before .before .before .before .before .before .before .before .before .before .before .pre .0), c .before .before .before .before .before .before .before .before .before .before .before .before .pre .1)
 
--- src/content.rt:218:1
 same-length : tie.Need-same-length
 same-length c = search needs
 
--- src/content.rt:218:1
 returns : tie.Need-returns
 returns c =
     let x = c .before .before .before .before .before .before .before .before .before .before .before .before .before .before .before .args in
@@ -48,7 +36,7 @@ returns c =
     let e : c .before .before .before .before .before .before .before .before .before .before .before .before .count-for .result ≡ countFor (x .c) (x .body .now) = c .before .before .before .before .before .before .before .before .before .before .before .before .count-for .ensures ∙ count-same (x .c) (x .body .now) in
     let a : After (x .out .now) (c .before .before .before .before .before .before .before .before .before .before .put-front .last .0) (x .p) (frontBits (x .c) (x .digits) (countFor (x .c) (x .body .now))) (c .before .before .before .before .before .before .before .before .before .before .put-front .result) (frontSize (x .c) (countFor (x .c) (x .body .now))) =
     subst (λ (k : ℕ). After (x .out .now) (c .before .before .before .before .before .before .before .before .before .before .put-front .last .0) (x .p) (frontBits (x .c) (x .digits) k) (c .before .before .before .before .before .before .before .before .before .before .put-front .result) (frontSize (x .c) k)) e (c .before .before .before .before .before .before .before .before .before .before .put-front .ensures) in
-    content-put (x .c) (x .digits) (x .body .now) d (c .before .before .before .before .before .before .before .before .before .before .before .before .before .before .before .pre .0) _ _ _ _ _ _ _ _ a (c .before .before .before .before .before .before .put-body .ensures) (c .before .before .put-back .ensures)
+    content-put (x .c) (x .digits) (x .body .now) d (bodied (x .c) (x .body .now) (c .before .before .before .before .before .before .before .before .before .before .before .before .before .before .before .pre .0)) _ _ _ _ _ _ _ _ a (c .before .before .before .before .before .before .put-body .ensures) (c .before .before .put-back .ensures)
 
 pub put-content-spec : {M : Type 1} → statement M
 put-content-spec =

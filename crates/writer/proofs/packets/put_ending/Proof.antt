@@ -1,4 +1,3 @@
-use mathlib.Core.Path.{refl}
 use mathlib.Core.Path.{_≡_}
 use native.Mathlib.Omega.{arith}
 use lib.ListN.{length}
@@ -7,48 +6,34 @@ use Rattle.writer.proofs.Whole.{ending-put}
 use borrow.Author.Needs.{needs}
 use Rattle.writer.proofs.packets.put_ending.Statement.{statement}
 use Rattle.writer.proofs.packets.put_ending.Tie as tie
-use Rattle.writer.proofs.packets.put_ending.Reads as reads
-use Rattle.writer.proofs.packets.put_ending.Lts as lts
-use Rattle.format.proofs.put_field.Reads as put-field-reads
-use Rattle.format.proofs.put_fields.Reads as put-fields-reads
 
--- src/packets.rt:38:5
 put-field-requires : tie.Need-put-field-requires
 put-field-requires c κs = search needs
 
--- src/packets.rt:39:29
 add-put-fields : tie.Need-add-put-fields
 add-put-fields c = search needs
 
--- src/packets.rt:39:40
 slice-aggregate-put-fields : tie.Need-slice-aggregate-put-fields
 slice-aggregate-put-fields c = search needs
 
--- src/packets.rt:39:5
 put-fields-requires : tie.Need-put-fields-requires
 put-fields-requires c κs = search needs
 
--- src/packets.rt:40:29
 add-put-fields-2 : tie.Need-add-put-fields-2
 add-put-fields-2 c = search needs
 
--- src/packets.rt:40:40
 slice-aggregate-put-fields-2 : tie.Need-slice-aggregate-put-fields-2
 slice-aggregate-put-fields-2 c = search needs
 
--- src/packets.rt:40:5
 put-fields-requires-2 : tie.Need-put-fields-requires-2
 put-fields-requires-2 c κs = search needs
 
--- src/packets.rt:41:5
 add-result : tie.Need-add-result
 add-result c = search needs
 
--- src/packets.rt:28:1
 same-length : tie.Need-same-length
 same-length c = search needs
 
--- src/packets.rt:28:1
 returns : tie.Need-returns
 returns c =
     let p = c .before .before .before .before .before .before .before .before .before .before .before .before .before .before .before .args .p in

@@ -4,39 +4,28 @@ use Rattle.writer.proofs.Whole.{head-put}
 use borrow.Author.Needs.{needs}
 use Rattle.writer.proofs.packets.put_head.Statement.{statement}
 use Rattle.writer.proofs.packets.put_head.Tie as tie
-use Rattle.writer.proofs.packets.put_head.Reads as reads
-use Rattle.writer.proofs.packets.put_head.Lts as lts
-use Rattle.format.proofs.put_field.Reads as put-field-reads
 
--- src/packets.rt:21:5
 put-field-requires : tie.Need-put-field-requires
 put-field-requires c κs = search needs
 
--- src/packets.rt:22:36
 sub-put-field : tie.Need-sub-put-field
 sub-put-field c = search needs
 
--- src/packets.rt:22:35
 cast-put-field : tie.Need-cast-put-field
 cast-put-field c = search needs
 
--- src/packets.rt:22:5
 put-field-requires-2 : tie.Need-put-field-requires-2
 put-field-requires-2 c κs = search needs
 
--- src/packets.rt:23:35
 cast-put-field-2 : tie.Need-cast-put-field-2
 cast-put-field-2 c = search needs
 
--- src/packets.rt:23:5
 put-field-requires-3 : tie.Need-put-field-requires-3
 put-field-requires-3 c κs = search needs
 
--- src/packets.rt:17:1
 same-length : tie.Need-same-length
 same-length c = search needs
 
--- src/packets.rt:17:1
 returns : tie.Need-returns
 returns c =
     head-put _ (c .before .before .before .before .before .before .before .before .before .before .put-field .last .0) (c .before .before .before .before .before .before .put-field2 .last .0) _ _ _ _

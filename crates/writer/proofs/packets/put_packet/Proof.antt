@@ -1,29 +1,19 @@
 use mathlib.Core.Path.{subst}
 use Rattle.writer.specs.Puts.{After}
 use Rattle.writer.specs.Parts.{headBits}
-use mathlib.Core.Path.{_≡_, refl, sym, ap, _∙_}
+use mathlib.Core.Path.{_≡_, ap}
 use Prim.Native.Nat.{ℕ, _*_}
 use native.Mathlib.Omega.{arith}
 use lib.ListN.{length}
-use Rattle.packet.specs.Table.{code}
 use Rattle.writer.proofs.Shapes.{can-put-rows, have-put-rows}
 use Rattle.writer.proofs.Together.{code-sound, code-need, code-size, codes-few, size-least, content-small, packet-put}
 use borrow.Author.Needs.{needs}
 use Rattle.writer.proofs.packets.put_packet.Statement.{statement}
 use Rattle.writer.proofs.packets.put_packet.Tie as tie
-use Rattle.writer.proofs.packets.put_packet.Reads as reads
-use Rattle.writer.proofs.packets.put_packet.Lts as lts
-use Rattle.packet.proofs.code_lines.Reads as code-lines-reads
-use Rattle.writer.proofs.content.put_content.Reads as put-content-reads
-use Rattle.writer.proofs.packets.put_ending.Reads as put-ending-reads
-use Rattle.writer.proofs.packets.put_head.Reads as put-head-reads
-use Rattle.writer.proofs.puts.put_rows.Reads as put-rows-reads
 
--- src/packets.rt:53:9
 code-lines-requires : tie.Need-code-lines-requires
 code-lines-requires c κs = search needs
 
--- src/packets.rt:54:9
 put-head-requires : tie.Need-put-head-requires
 put-head-requires c κs =
     let h = c .before .before .before .before .before .before .before .before .pre .0 in
@@ -33,7 +23,6 @@ put-head-requires c κs =
     let s = h .small in
     (omega arith, omega arith, omega arith)
 
--- src/packets.rt:55:9
 put-rows-requires : tie.Need-put-rows-requires
 put-rows-requires c κs =
     let h = c .before .before .before .before .before .before .before .before .before .before .before .before .pre .0 in
@@ -41,29 +30,25 @@ put-rows-requires c κs =
     let q = c .before .before .before .put-head .ensures .place in
     can-put-rows _ _ (c .before .before .before .before .before .code-lines .ensures) code-sound _ _ _ _ code-need (omega arith) (omega (arith, code-size)) (omega arith) (h .counts .coded) (omega arith)
 
--- src/packets.rt:56:9
 put-content-requires : tie.Need-put-content-requires
 put-content-requires c κs =
     let h = c .before .before .before .before .before .before .before .before .before .before .before .before .before .before .before .before .pre .0 in
     let n = codes-few (c .before .before .before .before .before .before .before .before .before .before .before .before .before .before .before .before .args .f) (c .before .before .before .before .before .before .before .before .before .before .before .before .before .before .before .before .args .body .now) (h .small) in
     let q = c .before .before .before .before .before .before .before .put-head .ensures .place in
     let r = have-put-rows _ _ (c .before .before .before .before .before .before .before .before .before .code-lines .ensures) _ _ _ _ _ _ (c .before .before .before .put-rows .ensures) .place in
-    (h .counts .lent, omega (arith, r, ap (λ (x : ℕ). c .before .before .before .before .before .before .before .before .before .before .before .before .before .before .before .before .args .f .codes * x) code-size))
+    (h .lent, omega (arith, r, ap (λ (x : ℕ). c .before .before .before .before .before .before .before .before .before .before .before .before .before .before .before .before .args .f .codes * x) code-size))
 
--- src/packets.rt:57:5
 put-ending-requires : tie.Need-put-ending-requires
 put-ending-requires c κs =
     let h = c .before .before .before .before .before .before .before .before .before .before .before .before .before .before .before .before .before .before .before .before .pre .0 in
     let n = codes-few (c .before .before .before .before .before .before .before .before .before .before .before .before .before .before .before .before .before .before .before .before .args .f) (c .before .before .before .before .before .before .before .before .before .before .before .before .before .before .before .before .before .before .before .before .args .body .now) (h .small) in
     let q = c .before .before .before .before .before .before .before .before .before .before .before .put-head .ensures .place in
     let r = have-put-rows _ _ (c .before .before .before .before .before .before .before .before .before .before .before .before .before .code-lines .ensures) _ _ _ _ _ _ (c .before .before .before .before .before .before .before .put-rows .ensures) .place in
-    omega (arith, r, ap (λ (x : ℕ). c .before .before .before .before .before .before .before .before .before .before .before .before .before .before .before .before .before .before .before .before .args .f .codes * x) code-size, c .before .before .before .put-content .ensures .place, content-small (c .before .before .before .before .before .before .before .before .before .before .before .before .before .before .before .before .before .before .before .before .args .f .content) (c .before .before .before .before .before .before .before .before .before .before .before .before .before .before .before .before .before .before .before .before .args .body .now) (h .counts .lent))
+    omega (arith, r, ap (λ (x : ℕ). c .before .before .before .before .before .before .before .before .before .before .before .before .before .before .before .before .before .before .before .before .args .f .codes * x) code-size, c .before .before .before .put-content .ensures .place, content-small (c .before .before .before .before .before .before .before .before .before .before .before .before .before .before .before .before .before .before .before .before .args .f .content) (c .before .before .before .before .before .before .before .before .before .before .before .before .before .before .before .before .before .before .before .before .args .body .now) (h .lent))
 
--- src/packets.rt:45:1
 same-length : tie.Need-same-length
 same-length c = search needs
 
--- src/packets.rt:45:1
 returns : tie.Need-returns
 returns c =
     let x = c .before .before .before .before .before .before .before .before .before .before .before .before .before .before .before .before .before .before .before .before .before .before .before .args in

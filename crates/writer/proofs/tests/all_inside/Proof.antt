@@ -7,8 +7,6 @@ use Rattle.writer.proofs.Inside.{inside-low, inside-high, inside-next, 
 use borrow.Author.Needs.{needs}
 use Rattle.writer.proofs.tests.all_inside.Statement.{statement}
 use Rattle.writer.proofs.tests.all_inside.Tie as tie
-use Rattle.writer.proofs.tests.all_inside.Reads as reads
-use Rattle.writer.proofs.tests.all_inside.Lts as lts
 
 abbrev Inv-loop : tie.InvT-loop
 Inv-loop xs lo hi j₀ j = (j ≤ length xs) × (inside lo hi xs ≡ inside lo hi (drop j xs))
@@ -16,35 +14,27 @@ Inv-loop xs lo hi j₀ j = (j ≤ length xs) × (inside lo hi xs ≡ inside lo h
 abbrev μ-loop : tie.MeasureT-loop
 μ-loop xs lo hi j₀ j = length xs - j
 
--- src/tests.rt:22:5
 loop-holds : tie.Need-loop-holds Inv-loop μ-loop
 loop-holds c = (omega arith, refl)
 
--- src/tests.rt:23:17
 shared-slice-read-x : tie.Need-shared-slice-read-x Inv-loop μ-loop
 shared-slice-read-x c = search needs
 
--- src/tests.rt:25:13
 returns : tie.Need-returns Inv-loop μ-loop
 returns c = let x = c .before .before .before .before .args in sym (c .before .before .before .loop .inv .1 ∙ inside-low (x .xs .now) (x .lo) (x .hi) (c .before .before .before .loop .j) (omega arith) (omega arith))
 
--- src/tests.rt:28:13
 returns-2 : tie.Need-returns-2 Inv-loop μ-loop
 returns-2 c = let x = c .before .before .before .before .before .args in sym (c .before .before .before .before .loop .inv .1 ∙ inside-high (x .xs .now) (x .lo) (x .hi) (c .before .before .before .before .loop .j) (omega arith) (omega arith) (omega arith))
 
--- src/tests.rt:30:9
 add-j : tie.Need-add-j Inv-loop μ-loop
 add-j c = search needs
 
--- src/tests.rt:22:5
 loop-less : tie.Need-loop-less Inv-loop μ-loop
 loop-less c = omega arith
 
--- src/tests.rt:22:5
 loop-again : tie.Need-loop-again Inv-loop μ-loop
 loop-again c = let x = c .before .before .before .before .before .args in (omega arith, c .before .before .before .before .loop .inv .1 ∙ inside-next (x .xs .now) (x .lo) (x .hi) (c .before .before .before .before .loop .j) (omega arith) (omega arith) (omega arith))
 
--- src/tests.rt:18:1
 returns-3 : tie.Need-returns-3 Inv-loop μ-loop
 returns-3 c = let x = c .before .before .args in sym (c .before .loop .inv .1 ∙ inside-end (x .xs .now) (x .lo) (x .hi) (c .before .loop .j) (omega arith))
 

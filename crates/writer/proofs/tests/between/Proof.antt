@@ -3,14 +3,10 @@ use borrow.Author.Tests.{le-leb, lt-leb}
 use Rattle.laws.proofs.Cases.{and-yes, and-no}
 use Rattle.writer.proofs.tests.between.Statement.{statement}
 use Rattle.writer.proofs.tests.between.Tie as tie
-use Rattle.writer.proofs.tests.between.Reads as reads
-use Rattle.writer.proofs.tests.between.Lts as lts
 
--- src/tests.rt:70:9
 returns : tie.Need-returns
 returns c = sym (and-no _ (lt-leb _ _ (c .if1 .taken)))
 
--- src/tests.rt:66:1
 returns-2 : tie.Need-returns-2
 returns-2 c = sym (and-yes _ (le-leb _ _ (c .if1 .left)))
 

@@ -1,48 +1,34 @@
 use borrow.Author.Needs.{needs}
 use Rattle.writer.proofs.tests.clock_fine.Statement.{statement}
 use Rattle.writer.proofs.tests.clock_fine.Tie as tie
-use Rattle.writer.proofs.tests.clock_fine.Reads as reads
-use Rattle.writer.proofs.tests.clock_fine.Lts as lts
-use Rattle.writer.proofs.tests.between.Reads as between-reads
-use Rattle.writer.proofs.tests.both.Reads as both-reads
 
--- src/tests.rt:85:21
 between-requires : tie.Need-between-requires
 between-requires c κs = search needs
 
--- src/tests.rt:85:45
 between-requires-2 : tie.Need-between-requires-2
 between-requires-2 c κs = search needs
 
--- src/tests.rt:85:9
 both-requires : tie.Need-both-requires
 both-requires c κs = search needs
 
--- src/tests.rt:86:26
 between-requires-3 : tie.Need-between-requires-3
 between-requires-3 c κs = search needs
 
--- src/tests.rt:86:9
 both-requires-2 : tie.Need-both-requires-2
 both-requires-2 c κs = search needs
 
--- src/tests.rt:87:25
 between-requires-4 : tie.Need-between-requires-4
 between-requires-4 c κs = search needs
 
--- src/tests.rt:87:9
 both-requires-3 : tie.Need-both-requires-3
 both-requires-3 c κs = search needs
 
--- src/tests.rt:88:10
 between-requires-5 : tie.Need-between-requires-5
 between-requires-5 c κs = search needs
 
--- src/tests.rt:88:5
 both-requires-4 : tie.Need-both-requires-4
 both-requires-4 c κs = search needs
 
--- src/tests.rt:82:1
 returns : tie.Need-returns
 returns c = cc
 

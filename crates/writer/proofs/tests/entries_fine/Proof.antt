@@ -1,5 +1,5 @@
-use mathlib.Core.Path.{_≡_, refl, sym, ap, _∙_}
-use mathlib.Core.Bool.{Bool, true, false, _&&_}
+use mathlib.Core.Path.{_≡_, sym, ap, _∙_}
+use mathlib.Core.Bool.{true, false}
 use Prim.Native.Nat.{ℕ, suc, _≤_, _-_, _+_, _*_}
 use native.Mathlib.Nat.{suc-mul}
 use native.Mathlib.Omega.{arith}
@@ -11,9 +11,6 @@ use Rattle.writer.proofs.Inside.{entry, entries-next, entries-end}
 use borrow.Author.Needs.{needs}
 use Rattle.writer.proofs.tests.entries_fine.Statement.{statement}
 use Rattle.writer.proofs.tests.entries_fine.Tie as tie
-use Rattle.writer.proofs.tests.entries_fine.Reads as reads
-use Rattle.writer.proofs.tests.entries_fine.Lts as lts
-use Rattle.writer.proofs.tests.entry_fine.Reads as entry-fine-reads
 
 abbrev Inv-loop : tie.InvT-loop
 Inv-loop answer k body from₀ j₀ from j = (j ≤ k) × (length body ≡ from + (k - j) * 8) × (fine answer (times k entry) (fill (times k entry) body) ≡ fine answer (times (k - j) entry) (fill (times (k - j) entry) (drop from body)))
@@ -21,7 +18,6 @@ Inv-loop answer k body from₀ j₀ from j = (j ≤ k) × (length body ≡ from 
 abbrev μ-loop : tie.MeasureT-loop
 μ-loop answer k body from₀ j₀ from j = k - j
 
--- src/tests.rt:54:5
 loop-holds : tie.Need-loop-holds Inv-loop μ-loop
 loop-holds c =
     let k = c .before .args .k in
@@ -29,27 +25,21 @@ loop-holds c =
     let l = c .before .pre .1 in
     (omega arith, rw e (omega arith), rw e)
 
--- src/tests.rt:55:19
 add-end : tie.Need-add-end Inv-loop μ-loop
 add-end c = search needs
 
--- src/tests.rt:56:32
 sub-entry-fine : tie.Need-sub-entry-fine Inv-loop μ-loop
 sub-entry-fine c = search needs
 
--- src/tests.rt:56:32
 part-entry-fine-start : tie.Need-part-entry-fine-start Inv-loop μ-loop
 part-entry-fine-start c = search needs
 
--- src/tests.rt:56:32
 part-entry-fine-end : tie.Need-part-entry-fine-end Inv-loop μ-loop
 part-entry-fine-end c = search needs
 
--- src/tests.rt:56:13
 entry-fine-requires : tie.Need-entry-fine-requires Inv-loop μ-loop
 entry-fine-requires c κs = search needs
 
--- src/tests.rt:57:13
 returns : tie.Need-returns Inv-loop μ-loop
 returns c =
     let x = c .before .before .before .before .before .before .args in
@@ -59,19 +49,15 @@ returns c =
     sym (c .before .entry-fine .ensures ∙ ap (λ (n : ℕ). fine (x .answer) entry (fill entry (take n (drop (g .from) (x .body .now))))) z) ∙ not-true (c .before .entry-fine .result) (c .if1 .taken) in
     sym (g .inv .2 ∙ entries-next (x .answer) (x .k) (g .j) (x .body .now) (g .from) (omega arith) (g .inv .1) ∙ and-no _ f)
 
--- src/tests.rt:59:9
 add-from : tie.Need-add-from Inv-loop μ-loop
 add-from c = search needs
 
--- src/tests.rt:60:9
 add-j : tie.Need-add-j Inv-loop μ-loop
 add-j c = search needs
 
--- src/tests.rt:54:5
 loop-less : tie.Need-loop-less Inv-loop μ-loop
 loop-less c = omega arith
 
--- src/tests.rt:54:5
 loop-again : tie.Need-loop-again Inv-loop μ-loop
 loop-again c =
     let x = c .before .before .before .before .before .before .args in
@@ -83,7 +69,6 @@ loop-again c =
     let l = rw e at (g .inv .1) in
     (omega arith, omega (arith, suc-mul (x .k - (g .j + 1)) 8), g .inv .2 ∙ entries-next (x .answer) (x .k) (g .j) (x .body .now) (g .from) (omega arith) (g .inv .1) ∙ and-yes _ f)
 
--- src/tests.rt:48:1
 returns-2 : tie.Need-returns-2 Inv-loop μ-loop
 returns-2 c =
     let x = c .before .before .before .args in

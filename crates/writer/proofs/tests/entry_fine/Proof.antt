@@ -1,39 +1,29 @@
-use mathlib.Core.Path.{_≡_, _∙_}
+use mathlib.Core.Path.{_∙_}
 use mathlib.Core.Logic.{⊎-elim}
 use native.Mathlib.Omega.{arith}
 use Rattle.writer.proofs.Inside.{entry-digits, entry-number}
 use borrow.Author.Needs.{needs}
 use Rattle.writer.proofs.tests.entry_fine.Statement.{statement}
 use Rattle.writer.proofs.tests.entry_fine.Tie as tie
-use Rattle.writer.proofs.tests.entry_fine.Reads as reads
-use Rattle.writer.proofs.tests.entry_fine.Lts as lts
-use Rattle.writer.proofs.tests.all_inside.Reads as all-inside-reads
 
--- src/tests.rt:41:20
 sub-all-inside : tie.Need-sub-all-inside
 sub-all-inside c = search needs
 
--- src/tests.rt:41:20
 part-all-inside-start : tie.Need-part-all-inside-start
 part-all-inside-start c = search needs
 
--- src/tests.rt:41:20
 part-all-inside-end : tie.Need-part-all-inside-end
 part-all-inside-end c = search needs
 
--- src/tests.rt:41:9
 all-inside-requires : tie.Need-all-inside-requires
 all-inside-requires c κs = search needs
 
--- src/tests.rt:43:9
 shared-slice-read-result : tie.Need-shared-slice-read-result
 shared-slice-read-result c = search needs
 
--- src/tests.rt:36:1
 returns : tie.Need-returns
 returns c = rw (c .before .before .if1 .taken) (c .all-inside .ensures ∙ entry-digits (c .before .before .before .before .args .e .now) (c .before .before .before .before .pre .1))
 
--- src/tests.rt:36:1
 returns-2 : tie.Need-returns-2
 returns-2 c =
     ⊎-elim (λ q. absurd (c .before .if1 .left q)) (λ q. rw q (entry-number (c .before .before .before .args .e .now) (c .before .before .before .pre .1) (omega (arith, c .shared-slice-known2 .given 0)))) (c .before .before .before .pre .0)

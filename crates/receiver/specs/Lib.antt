@@ -1,0 +1,5 @@
+pub mod Rule
+pub mod Receive
+pub mod Readers
+pub mod Calls
+pub mod Steps

@@ -1,0 +1,72 @@
+use mathlib.Core.Path.{_≡_, sym, ap, _∙_}
+use mathlib.Core.Bool.{not}
+use borrow.Author.Tests.{not-true, not-false}
+use Rattle.packet.specs.Table.{formOf, typeOf}
+use Rattle.packet.specs.Content.{formFor}
+use Rattle.packet.specs.Writing.{rowFor, digitsLost}
+use Rattle.writer.proofs.Taken.{lost-is, other-type, body-lost, digits-lost, by-codes}
+use borrow.Author.Needs.{needs}
+use Rattle.writer.proofs.tests.nothing_lost.Statement.{statement}
+use Rattle.writer.proofs.tests.nothing_lost.Tie as tie
+
+form-of-requires : tie.Need-form-of-requires
+form-of-requires c κs = search needs
+
+type-of-requires : tie.Need-type-of-requires
+type-of-requires c κs = search needs
+
+form-for-requires : tie.Need-form-for-requires
+form-for-requires c κs = search needs
+
+type-of-requires-2 : tie.Need-type-of-requires-2
+type-of-requires-2 c κs = search needs
+
+returns : tie.Need-returns
+returns c =
+    let f = c .before .before .before .before .before .before .before .args .f in
+    other-type f _ (λ (q : typeOf (formOf (f .kind)) ≡ typeOf (formFor (f .content))). c .if1 .taken (c .before .before .before .type-of .ensures ∙ ap typeOf (c .before .before .before .before .form-of .ensures) ∙ q ∙ sym (c .before .type-of2 .ensures ∙ ap typeOf (c .before .before .form-for .ensures))))
+
+body-lost-requires : tie.Need-body-lost-requires
+body-lost-requires c κs = search needs
+
+returns-2 : tie.Need-returns-2
+returns-2 c =
+    let f = c .before .before .before .before .before .before .before .before .before .args .f in
+    let t : typeOf (formOf (f .kind)) ≡ typeOf (formFor (f .content)) = sym (c .before .before .before .before .before .type-of .ensures ∙ ap typeOf (c .before .before .before .before .before .before .form-of .ensures)) ∙ c .before .before .if1 .left ∙ c .before .before .before .type-of2 .ensures ∙ ap typeOf (c .before .before .before .before .form-for .ensures) in
+    body-lost f (c .before .before .before .before .before .before .before .before .before .args .body .now) t (sym (c .before .body-lost .ensures ∙ lost-is (rowFor (f .content) .sort) (c .before .before .before .before .before .before .before .before .before .args .body .now)) ∙ c .if2 .taken)
+
+digits-kept-requires : tie.Need-digits-kept-requires
+digits-kept-requires c κs = search needs
+
+returns-3 : tie.Need-returns-3
+returns-3 c =
+    let f = c .before .before .before .before .before .before .before .before .before .before .before .args .f in
+    let t : typeOf (formOf (f .kind)) ≡ typeOf (formFor (f .content)) = sym (c .before .before .before .before .before .before .before .type-of .ensures ∙ ap typeOf (c .before .before .before .before .before .before .before .before .form-of .ensures)) ∙ c .before .before .before .before .if1 .left ∙ c .before .before .before .before .before .type-of2 .ensures ∙ ap typeOf (c .before .before .before .before .before .before .form-for .ensures) in
+    let b = sym (c .before .before .before .body-lost .ensures ∙ lost-is (rowFor (f .content) .sort) (c .before .before .before .before .before .before .before .before .before .before .before .args .body .now)) ∙ c .before .before .if2 .left in
+    digits-lost f (c .before .before .before .before .before .before .before .before .before .before .before .args .body .now) t b (not-false (digitsLost (f .content) (f .digits)) (sym (c .before .digits-kept .ensures) ∙ not-true (c .before .digits-kept .result) (c .if3 .taken)))
+
+codes-lost-requires : tie.Need-codes-lost-requires
+codes-lost-requires c κs = search needs
+
+returns-4 : tie.Need-returns-4
+returns-4 c =
+    let f = c .before .before .before .before .before .before .before .before .before .before .before .before .args .f in
+    let t : typeOf (formOf (f .kind)) ≡ typeOf (formFor (f .content)) = sym (c .before .before .before .before .before .before .before .before .type-of .ensures ∙ ap typeOf (c .before .before .before .before .before .before .before .before .before .form-of .ensures)) ∙ c .before .before .before .before .before .if1 .left ∙ c .before .before .before .before .before .before .type-of2 .ensures ∙ ap typeOf (c .before .before .before .before .before .before .before .form-for .ensures) in
+    let b = sym (c .before .before .before .before .body-lost .ensures ∙ lost-is (rowFor (f .content) .sort) (c .before .before .before .before .before .before .before .before .before .before .before .before .args .body .now)) ∙ c .before .before .before .if2 .left in
+    ap not (c .codes-lost .ensures) ∙ by-codes f (c .before .before .before .before .before .before .before .before .before .before .before .before .args .body .now) t b (not-true (digitsLost (f .content) (f .digits)) (sym (c .before .before .digits-kept .ensures) ∙ not-false (c .before .before .digits-kept .result) (c .before .if3 .left)))
+
+pub nothing-lost-spec : {M : Type 1} → statement M
+nothing-lost-spec =
+    tie.close
+    (tie.spec
+    form-of-requires
+    type-of-requires
+    form-for-requires
+    type-of-requires-2
+    returns
+    body-lost-requires
+    returns-2
+    digits-kept-requires
+    returns-3
+    codes-lost-requires
+    returns-4)
