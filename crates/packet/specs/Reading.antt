@@ -168,8 +168,11 @@ bodyOf b =
     (cond (hasEntries (formIn b)) 0 (countOf b)) b
 
 -- the text, 20 bytes into the content; 27 where the type is not 15
+abbrev pub textCases : List ℕ → List Case
+textCases b = casesThen b (fieldBad b || not (eqb (kindIn b) 15))
+
 unfoldable pub textAnswer : List ℕ → ℕ
-textAnswer b = first (casesThen b (fieldBad b || not (eqb (kindIn b) 15)))
+textAnswer b = first (textCases b)
 
 unfoldable pub textOf : List ℕ → List ℕ
 textOf b = partBy (textAnswer b) (23 + 12 * codesIn b) (countOf b) b

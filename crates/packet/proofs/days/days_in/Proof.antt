@@ -1,51 +1,40 @@
 -- `packet::days::days_in` meets its contract. Assumes nothing.
 use mathlib.Core.Path.{sym, _∙_}
 use borrow.Author.Tests.{ne-eqb}
-use Rattle.packet.specs.Content.{leap, daysIn}
+use Rattle.packet.specs.Content.{daysIn}
 use borrow.Author.Needs.{needs}
 use Rattle.packet.proofs.days.days_in.Statement.{statement}
 use Rattle.packet.proofs.days.days_in.Tie as tie
-use Rattle.packet.proofs.days.days_in.Reads as reads
-use Rattle.packet.proofs.days.days_in.Lts as lts
-use Rattle.packet.proofs.days.leap_year.Reads as leap-year-reads
 
--- src/days.rt:21:19
 leap-year-requires : tie.Need-leap-year-requires
 leap-year-requires c κs = search needs
 
--- src/days.rt:17:1
 returns : tie.Need-returns
 unfolding daysIn
 returns c =
     rw (c .before .before .match .keys1, sym (c .before .leap-year .ensures) ∙ c .if1 .taken)
 
--- src/days.rt:17:1
 returns-2 : tie.Need-returns-2
 unfolding daysIn
 returns-2 c =
     rw (c .before .before .match .keys1, sym (c .before .leap-year .ensures) ∙ c .if1 .left)
 
--- src/days.rt:17:1
 returns-3 : tie.Need-returns-3
 unfolding daysIn
 returns-3 c = rw (c .match .keys2)
 
--- src/days.rt:17:1
 returns-4 : tie.Need-returns-4
 unfolding daysIn
 returns-4 c = rw (c .match .keys3)
 
--- src/days.rt:17:1
 returns-5 : tie.Need-returns-5
 unfolding daysIn
 returns-5 c = rw (c .match .keys4)
 
--- src/days.rt:17:1
 returns-6 : tie.Need-returns-6
 unfolding daysIn
 returns-6 c = rw (c .match .keys5)
 
--- src/days.rt:17:1
 returns-7 : tie.Need-returns-7
 unfolding daysIn
 returns-7 c =

@@ -4,22 +4,17 @@ use Prim.Native.Nat.{_%_}
 use Rattle.packet.specs.Content.{leap}
 use Rattle.packet.proofs.days.leap_year.Statement.{statement}
 use Rattle.packet.proofs.days.leap_year.Tie as tie
-use Rattle.packet.proofs.days.leap_year.Reads as reads
-use Rattle.packet.proofs.days.leap_year.Lts as lts
 
--- src/days.rt:9:9
 returns : tie.Need-returns
 unfolding leap
 returns c =
     rw (ne-eqb (c .before .args .year % 4) 0 (c .if1 .taken))
 
--- src/days.rt:12:9
 returns-2 : tie.Need-returns-2
 unfolding leap
 returns-2 c =
     rw (eq-eqb (c .before .before .args .year % 4) 0 (c .before .if1 .left), ne-eqb (c .before .before .args .year % 100) 0 (c .if2 .taken))
 
--- src/days.rt:5:1
 returns-3 : tie.Need-returns-3
 unfolding leap
 returns-3 c =

@@ -1,0 +1,95 @@
+// Runs the packet reader on cases from standard input, and prints what each gives beside what it should be.
+// A case: the length of its name and the name; the reader's answer, the text's answer, the length of the text and the text;
+// the length of the packet, in two bytes, and the packet.
+ghost use Prim.Native.Nat.{_≤_};
+use libc::STDIN_FILENO;
+use libc::STDOUT_FILENO;
+
+fn say(b: &[u8]) {
+    io::write_all(STDOUT_FILENO, b);
+}
+
+fn byte(b: &[u8], i: usize) -> u8 {
+    if i < b.len() { b[i] } else { 0 }
+}
+
+// k bytes from a byte on; as many as there are.
+fn part(b: &[u8], from: usize, k: usize) -> &[u8] {
+    let p = b.len();
+    if p <= from {
+        return &b[0..0];
+    }
+    if k < p - from {
+        let e = from + k;
+        &b[from..e]
+    } else {
+        &b[from..p]
+    }
+}
+
+// What is given, what it should be, and whether they are the same.
+fn number(name: &[u8], gives: u8, should_be: u8) {
+    say(name);
+    io::print_decimal(STDOUT_FILENO, gives as u64);
+    say(b", should be ");
+    io::print_decimal(STDOUT_FILENO, should_be as u64);
+    if gives == should_be {
+        say(b", ok");
+    } else {
+        say(b", WRONG");
+    }
+}
+
+// A text that should come back byte for byte.
+fn text(gives: &[u8], should_be: &[u8]) {
+    say(b"; bytes ");
+    io::print_decimal(STDOUT_FILENO, gives.len() as u64);
+    if check::same(gives, should_be) {
+        say(b", the same, ok\n");
+    } else {
+        say(b", not the same, WRONG\n");
+    }
+}
+
+// The length of a case whose name, text and packet have these lengths.
+fn span(name: u8, text: u8, high: u8, low: u8) -> usize
+    ensures { λ r. ⌜ (1 ≤ r) × (r ≤ 70000) ⌝ }
+{
+    6 + name as usize + text as usize + 256 * (high as usize) + low as usize
+}
+
+// One case, which begins a list; how long it is.
+fn case(b: &[u8]) -> usize
+    ensures { λ r. ⌜ (1 ≤ r) × (r ≤ 70000) ⌝ }
+{
+    let name = byte(b, 0);
+    let n = name as usize;
+    let words = byte(b, n + 3);
+    let t = words as usize;
+    let high = byte(b, n + 4 + t);
+    let low = byte(b, n + 5 + t);
+    let packet = part(b, n + 6 + t, 256 * (high as usize) + low as usize);
+    say(part(b, 1, n));
+    number(b": read ", reader::read(packet).answer, byte(b, n + 1));
+    number(b"; text ", reader::text_answer(packet), byte(b, n + 2));
+    text(reader::text(packet), part(b, n + 4, t));
+    span(name, words, high, low)
+}
+
+// So many bytes, and no more than can be read at once.
+fn capped(n: usize) -> usize
+    ensures { λ r. ⌜ r ≤ 65536 ⌝ }
+{
+    if n < 65536 { n } else { 65536 }
+}
+
+fn main() {
+    let mut cases = io::large_buffer();
+    let n = io::read_full(STDIN_FILENO, &mut cases);
+    let all = part(&cases, 0, n);
+    let end = capped(all.len());
+    let mut i: usize = 0;
+    while i < end {
+        i += case(part(all, i, 65536));
+    }
+}

@@ -1,0 +1,71 @@
+use mathlib.Core.Path.{_≡_, sym, ap, _∙_}
+use mathlib.Core.List.{[]}
+use denote.Ref.{now}
+use native.Mathlib.Omega.{arith}
+use Rattle.laws.proofs.Cases.{if-no}
+use Rattle.format.specs.Format.{size}
+use Rattle.packet.specs.declared.Form.the-variants as form
+use Rattle.packet.specs.Table.{typeOf}
+use Rattle.packet.specs.Reading.{formIn, partAt, bodyIn, padded}
+use Rattle.packet.proofs.Forms.{same-form}
+use borrow.Author.Tests.{ne-eqb}
+use Rattle.reader.proofs.Whole as whole
+use borrow.Author.Needs.{needs}
+use Rattle.reader.proofs.parts.entries.Statement.{statement}
+use Rattle.reader.proofs.parts.entries.Tie as tie
+
+form-requires : tie.Need-form-requires
+form-requires c κs = search needs
+
+type-of-requires : tie.Need-type-of-requires
+type-of-requires c κs = search needs
+
+codes-count-requires : tie.Need-codes-count-requires
+codes-count-requires c κs = search needs
+
+count-requires : tie.Need-count-requires
+count-requires c κs = search needs
+
+mul-entries-in : tie.Need-mul-entries-in
+mul-entries-in c = search needs
+
+add-entries-in : tie.Need-add-entries-in
+add-entries-in c = search needs
+
+add-entries-in-2 : tie.Need-add-entries-in-2
+add-entries-in-2 c = search needs
+
+entries-in-requires : tie.Need-entries-in-requires
+entries-in-requires c κs = (omega (arith, c .before .codes-count .ensures .1), rw (c .count .ensures) (whole.count-small (now (c .before .before .before .before .before .before .args .b)) (c .before .before .before .before .before .before .pre)))
+
+zeros272-requires : tie.Need-zeros272-requires
+zeros272-requires c κs = search needs
+
+returns : tie.Need-returns
+unfolding bodyIn partAt size
+returns c =
+    let b = now (c .before .before .before .before .before .before .before .args .b) in
+    let e : formIn b ≡ form.Frequencies = same-form (formIn b) form.Frequencies (sym (c .before .before .before .before .type-of .ensures ∙ ap typeOf (c .before .before .before .before .before .form .ensures)) ∙ c .before .before .before .if1 .taken) in
+    c .entries-in .ensures ∙ rw (e, c .before .count .ensures, c .before .before .codes-count .ensures .0)
+
+returns-2 : tie.Need-returns-2
+returns-2 c =
+    let b = now (c .before .before .before .before .before .args .b) in
+    let e : c .before .before .type-of .result ≡ typeOf (formIn b) = c .before .before .type-of .ensures ∙ ap typeOf (c .before .before .before .form .ensures) in
+    c .zeros272 .ensures ∙ sym (ap (padded 272) (if-no (bodyIn b) [] (ne-eqb (typeOf (formIn b)) 0 (λ h. c .before .if1 .left (e ∙ h)))))
+
+pub entries-spec : {M : Type 1} → statement M
+entries-spec =
+    tie.close
+    (tie.spec
+    form-requires
+    type-of-requires
+    codes-count-requires
+    count-requires
+    mul-entries-in
+    add-entries-in
+    add-entries-in-2
+    entries-in-requires
+    zeros272-requires
+    returns
+    returns-2)

@@ -1,0 +1,56 @@
+use mathlib.Core.Path.{sym, ap, _∙_}
+use Prim.Native.Nat.{ℕ, _+_}
+use denote.Ref.{now}
+use native.Mathlib.Omega.{arith}
+use Rattle.laws.proofs.Bits.{at-small}
+use Rattle.reader.proofs.Whole as whole
+use borrow.Author.Needs.{needs}
+use Rattle.reader.proofs.tests.size_bad.Statement.{statement}
+use Rattle.reader.proofs.tests.size_bad.Tie as tie
+
+returns : tie.Need-returns
+returns c = whole.short (now (c .before .before .args .b)) (c .if1 .taken)
+
+returns-2 : tie.Need-returns-2
+returns-2 c = whole.long (now (c .before .before .before .args .b)) (c .before .if1 .left) (c .if2 .taken)
+
+medium-requires : tie.Need-medium-requires
+medium-requires c κs = search needs
+
+cast-l : tie.Need-cast-l
+cast-l c = omega (arith, c .medium .ensures, at-small (now (c .before .before .before .before .args .b)) 5 11 11 (omega arith))
+
+add-if3 : tie.Need-add-if3
+add-if3 c = omega (arith, c .medium .ensures, at-small (now (c .before .before .before .before .args .b)) 5 11 11 (omega arith))
+
+returns-3 : tie.Need-returns-3
+returns-3 c = whole.other (now (c .before .before .before .before .before .args .b)) (c .before .before .before .if1 .left) (c .before .before .if2 .left) (λ e. c .if3 .taken (e ∙ ap (λ (n : ℕ). n + 2) (sym (c .before .medium .ensures))))
+
+codes-count-requires : tie.Need-codes-count-requires
+codes-count-requires c κs = search needs
+
+mul-result : tie.Need-mul-result
+mul-result c = search needs
+
+add-result : tie.Need-add-result
+add-result c = search needs
+
+returns-4 : tie.Need-returns-4
+returns-4 c =
+    let b = now (c .before .before .before .before .before .before .args .b) in
+    rw (c .codes-count .ensures .0) (whole.few b (c .before .before .before .before .if1 .left) (c .before .before .before .if2 .left) (c .before .if3 .left ∙ ap (λ (n : ℕ). n + 2) (c .before .before .medium .ensures)))
+
+pub size-bad-spec : {M : Type 1} → statement M
+size-bad-spec =
+    tie.close
+    (tie.spec
+    returns
+    returns-2
+    medium-requires
+    cast-l
+    add-if3
+    returns-3
+    codes-count-requires
+    mul-result
+    add-result
+    returns-4)

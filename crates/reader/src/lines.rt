@@ -1,0 +1,125 @@
+// Lines of a table over the bits of a packet: their size, and whether any is due an answer.
+ghost use mathlib.Core.Path.{_≡_};
+ghost use mathlib.Core.Bool.{true, false, cond};
+ghost use Prim.Native.Nat.{_+_, _*_, _<_, _≤_};
+ghost use lib.ListN.{take};
+ghost use lib.Dec.{eqb};
+ghost use Rattle.laws.specs.Bits.{at, run, bits};
+ghost use Rattle.laws.specs.Scan.{all};
+ghost use Rattle.format.specs.Format.{times, size, decode, lineOk, fine};
+ghost use Rattle.reader.specs.Sound.{sound, unmet};
+use format::Line;
+use packet::Lines;
+
+// A number of at most a byte, of two bytes.
+pub(crate) fn small(b: &[u8], p: usize, w: usize) -> u8
+    requires { ⌜ (w ≤ 8) × (p < 65536) ⌝ }
+    ensures { λ r. ⌜ r ≡ at (bits (now (b .entry))) p w ⌝ }
+{
+    format::field(b, p, w) as u8
+}
+
+pub(crate) fn medium(b: &[u8], p: usize, w: usize) -> u16
+    requires { ⌜ (w ≤ 16) × (p < 65536) ⌝ }
+    ensures { λ r. ⌜ r ≡ at (bits (now (b .entry))) p w ⌝ }
+{
+    format::field(b, p, w) as u16
+}
+
+// The bits of a line.
+fn width(t: Line) -> usize
+    requires { ⌜ sound t ≡ true ⌝ }
+    ensures { λ r. ⌜ (r ≡ t .n * t .w) × (r ≤ 2048) ⌝ }
+{
+    t.n * t.w
+}
+
+// The bits of lines.
+pub(crate) fn lines_size(ts: Lines) -> usize
+    requires { ⌜ (ts .m ≤ 6) × (all sound (take (ts .m) (ts .all)) ≡ true) ⌝ }
+    ensures { λ r. ⌜ (r ≡ size (take (ts .m) (ts .all))) × (r ≤ 12288) ⌝ }
+{
+    let m = ts.m;
+    let all = ts.all;
+    let mut q: usize = 0;
+    let mut j: usize = 0;
+    while j < m {
+        let t = all[j];
+        q += width(t);
+        j += 1;
+    }
+    q
+}
+
+// A line is no concern of the answer k, or its numbers are as it says.
+fn line_fine(k: u8, t: Line, b: &[u8], p: usize) -> bool
+    requires { ⌜ (sound t ≡ true) × (p < 65536) ⌝ }
+    ensures { λ r. ⌜ r ≡ lineOk k t (run (bits (now (b .entry))) p (t .n) (t .w)) ⌝ }
+{
+    let o = t.other;
+    if o == k {
+        format::ranged(b, p, t.n, t.w, t.lo, t.hi)
+    } else {
+        true
+    }
+}
+
+// No line from bit p on is due the answer k.
+pub(crate) fn lines_fine(k: u8, ts: Lines, b: &[u8], p: usize) -> bool
+    requires { ⌜ (ts .m ≤ 6) × (all sound (take (ts .m) (ts .all)) ≡ true) × (p < 50000) ⌝ }
+    ensures { λ r. ⌜ r ≡ fine k (take (ts .m) (ts .all)) (decode (take (ts .m) (ts .all)) (bits (now (b .entry))) p) ⌝ }
+{
+    let m = ts.m;
+    let all = ts.all;
+    let mut q = p;
+    let mut j: usize = 0;
+    while j < m {
+        let t = all[j];
+        if !line_fine(k, t, b, q) {
+            return false;
+        }
+        q += width(t);
+        j += 1;
+    }
+    true
+}
+
+// No line is any concern of the answer k.
+fn lines_unmet(k: u8, ts: Lines) -> bool
+    requires { ⌜ ts .m ≤ 6 ⌝ }
+    ensures { λ r. ⌜ r ≡ all (unmet k) (take (ts .m) (ts .all)) ⌝ }
+{
+    let m = ts.m;
+    let all = ts.all;
+    let mut j: usize = 0;
+    while j < m {
+        let t = all[j];
+        let o = t.other;
+        if o == k {
+            return false;
+        }
+        j += 1;
+    }
+    true
+}
+
+// The same of rows of lines, n of them; text has no line to test, so its bytes are passed over at once.
+pub(crate) fn rows_fine(k: u8, ts: Lines, n: usize, b: &[u8], p: usize) -> bool
+    requires { ⌜ (ts .m ≤ 6) × (all sound (take (ts .m) (ts .all)) ≡ true) × (size (take (ts .m) (ts .all)) ≤ 100) × (n < 256) × (p < 4000) ⌝ }
+    ensures { λ r. ⌜ r ≡ fine k (times n (take (ts .m) (ts .all))) (decode (times n (take (ts .m) (ts .all))) (bits (now (b .entry))) p) ⌝ }
+{
+    if lines_unmet(k, ts) {
+        return true;
+    }
+    let s = lines_size(ts);
+    let mut q = p;
+    let mut j: usize = 0;
+    while j < n {
+        if !lines_fine(k, ts, b, q) {
+            return false;
+        }
+        q += s;
+        j += 1;
+    }
+    true
+}

@@ -1,0 +1,115 @@
+// What is wrong with a packet: the answers 20, 23, 26, 24, 25 and 27, in that order.
+ghost use mathlib.Core.Path.{_≡_};
+ghost use mathlib.Core.Bool.{_&&_, false};
+ghost use Prim.Native.Nat.{_<_, _≤_};
+ghost use lib.ListN.{length};
+ghost use Rattle.laws.specs.Bits.{bits};
+ghost use Rattle.format.specs.Format.{times, decode, fine};
+ghost use Rattle.packet.specs.Table.{rowOf, code, ending, contentLines};
+ghost use Rattle.packet.specs.Reading.{sizeBad, lengthBad, tableOf, valuesIn, readAnswer};
+use crate::lines;
+use crate::parts;
+use packet::Form;
+
+// 20: not 77 to 250 bytes, or not the length field and 2, or under 77 and 12 a code.
+fn size_bad(b: &[u8]) -> bool
+    ensures { λ r. ⌜ r ≡ sizeBad (now (b .entry)) ⌝ }
+{
+    let p = b.len();
+    if p < 77 {
+        return true;
+    }
+    if p > 250 {
+        return true;
+    }
+    let l = lines::medium(b, 5, 11) as usize;
+    if p != l + 2 {
+        return true;
+    }
+    p < 77 + 12 * parts::codes_count(b)
+}
+
+// 26: the lines of the content are not as long as the content.
+fn length_bad(b: &[u8]) -> bool
+    requires { ⌜ length (now b) ≤ 250 ⌝ }
+    ensures { λ r. ⌜ r ≡ lengthBad (now (b .entry)) ⌝ }
+{
+    let f = parts::form(b);
+    let k = parts::count(b);
+    let m = parts::content_size(b);
+    parts::lead_of(f) + k * parts::each_of(f) + parts::rest_of(f) != 8 * m
+}
+
+// No line of a content from bit q on is due the answer a.
+fn content_fine(a: u8, f: Form, k: usize, b: &[u8], q: usize) -> bool
+    requires { ⌜ (a ≡ 26 → ⊥) × (k < 256) × (q < 2000) ⌝ }
+    ensures { λ r. ⌜ r ≡ fine a (contentLines (rowOf f) k) (decode (contentLines (rowOf f) k) (bits (now (b .entry))) q) ⌝ }
+{
+    let s = packet::row_of(f);
+    let before = s.before;
+    let each = s.each;
+    let after = s.after;
+    let p = q + parts::lead_of(f);
+    if !lines::lines_fine(a, before, b, q) {
+        return false;
+    }
+    if !lines::rows_fine(a, each, k, b, p) {
+        return false;
+    }
+    lines::lines_fine(a, after, b, p + k * parts::each_of(f))
+}
+
+// No line of the codes, and none of what follows the content, which ends at bit e.
+fn frame_fine(a: u8, n: usize, b: &[u8], e: usize) -> bool
+    requires { ⌜ (n < 15) × (e < 2000) ⌝ }
+    ensures { λ r. ⌜ r ≡ (fine a (times n code) (decode (times n code) (bits (now (b .entry))) 24) && fine a ending (decode ending (bits (now (b .entry))) e)) ⌝ }
+{
+    let code = packet::code_lines();
+    let ending = packet::ending_lines();
+    if !lines::rows_fine(a, code, n, b, 24) {
+        return false;
+    }
+    lines::lines_fine(a, ending, b, e)
+}
+
+// No line of the packet, whose sizes are right.
+fn packet_fine(a: u8, b: &[u8]) -> bool
+    requires { ⌜ (a ≡ 26 → ⊥) × (sizeBad (now b) ≡ false) × (lengthBad (now b) ≡ false) ⌝ }
+    ensures { λ r. ⌜ r ≡ fine a (tableOf (now (b .entry))) (valuesIn (now (b .entry))) ⌝ }
+{
+    let n = parts::codes_count(b);
+    let m = parts::content_size(b);
+    let q = 24 + 96 * n;
+    if !frame_fine(a, n, b, q + 8 * m) {
+        return false;
+    }
+    content_fine(a, parts::form(b), parts::count(b), b, q)
+}
+
+// The reader's answer.
+pub(crate) fn answer(b: &[u8]) -> u8
+    ensures { λ r. ⌜ r ≡ readAnswer (now (b .entry)) ⌝ }
+{
+    if size_bad(b) {
+        return 20;
+    }
+    if packet::type_of(parts::form(b)) == 31 {
+        return 23;
+    }
+    if length_bad(b) {
+        return 26;
+    }
+    if !packet_fine(24, b) {
+        return 24;
+    }
+    if !packet_fine(25, b) {
+        return 25;
+    }
+    if !packet_fine(27, b) {
+        return 27;
+    }
+    if packet::no_such_day(parts::content(b)) {
+        return 27;
+    }
+    0
+}

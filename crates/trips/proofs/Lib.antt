@@ -1,0 +1,7 @@
+pub mod Parts
+pub mod Fitting
+pub mod Contents
+pub mod Octets
+pub mod There
+pub mod Back
+pub mod Answers
