@@ -1,8 +1,9 @@
--- The code's tables are those of Table: the first m of six lines.
+-- The code's tables are those of Table: the first m of six lines, and behind them lines of no number.
 use mathlib.Core.Path.{_≡_}
 use mathlib.Core.List.{List}
-use Prim.Native.Nat.{_≤_}
-use lib.ListN.{take}
+use Prim.Native.Nat.{_-_, _≤_}
+use lib.ListN.{take, drop, replicate}
+use Rattle.format.specs.Format.{octets}
 use Rattle.format.specs.declared.Line.{Line}
 use Rattle.packet.specs.declared.Lines.{Lines}
 use Rattle.packet.specs.declared.Shape.{Shape}
@@ -11,6 +12,7 @@ use Rattle.packet.specs.Table.{Row}
 pub record Listed (r : Lines) (ts : List Line) : Type 0 where
   pub lines : take (r .m) (r .all) ≡ ts
   pub few : r .m ≤ 6
+  pub rest : drop (r .m) (r .all) ≡ replicate (6 - r .m) (octets 0)
 
 pub record Shaped (r : Shape) (t : Row) : Type 0 where
   pub same : r .sort ≡ t .sort

@@ -110,36 +110,40 @@ pub(crate) fn no_lines() -> Lines
 pub(crate) fn one_line(a: Line) -> Lines
     ensures { λ r. ⌜ Listed r (a ∷ []) ⌝ }
 {
+    let z = an_octets(0);
     Lines {
         m: 1,
-        all: [a, a, a, a, a, a],
+        all: [a, z, z, z, z, z],
     }
 }
 
 pub(crate) fn two_lines(a: Line, b: Line) -> Lines
     ensures { λ r. ⌜ Listed r (a ∷ b ∷ []) ⌝ }
 {
+    let z = an_octets(0);
     Lines {
         m: 2,
-        all: [a, b, b, b, b, b],
+        all: [a, b, z, z, z, z],
     }
 }
 
 pub(crate) fn three_lines(a: Line, b: Line, c: Line) -> Lines
     ensures { λ r. ⌜ Listed r (a ∷ b ∷ c ∷ []) ⌝ }
 {
+    let z = an_octets(0);
     Lines {
         m: 3,
-        all: [a, b, c, c, c, c],
+        all: [a, b, c, z, z, z],
     }
 }
 
 pub(crate) fn four_lines(a: Line, b: Line, c: Line, d: Line) -> Lines
     ensures { λ r. ⌜ Listed r (a ∷ b ∷ c ∷ d ∷ []) ⌝ }
 {
+    let z = an_octets(0);
     Lines {
         m: 4,
-        all: [a, b, c, d, d, d],
+        all: [a, b, c, d, z, z],
     }
 }
 

@@ -21,7 +21,7 @@ returns c =
     record {
       same = refl;
       first = none;
-      rows = record { lines = c .before .one-line .ensures .lines ∙ ap (λ (t : Line). t ∷ []) (c .before .before .an-octets .ensures); few = c .before .one-line .ensures .few };
+      rows = record { lines = c .before .one-line .ensures .lines ∙ ap (λ (t : Line). t ∷ []) (c .before .before .an-octets .ensures); few = c .before .one-line .ensures .few; rest = c .before .one-line .ensures .rest };
       last = none;
     }
 
