@@ -1,1 +1,3 @@
 pub mod Pier
+pub mod Sent
+pub mod Air
