@@ -1,3 +1,4 @@
 pub mod Pier
+pub mod Single
 pub mod Sent
 pub mod Air
