@@ -1,4 +1,5 @@
 pub mod Pier
 pub mod Single
+pub mod Answers
 pub mod Sent
 pub mod Air

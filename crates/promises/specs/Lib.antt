@@ -1,1 +1,2 @@
 pub mod Pier
+pub mod Exactly
