@@ -1,15 +1,14 @@
 -- What is put on air comes back. Assumes nothing.
-use mathlib.Core.Path.{_≡_, refl, sym, ap, _∙_}
+use mathlib.Core.Path.{_≡_, ap, _∙_}
 use mathlib.Core.Bool.{true}
-use mathlib.Core.List.{List, [], _∷_, _++_}
-use Prim.Native.Nat.{ℕ, zero, suc, _+_, _*_, _<_, _≤_}
+use mathlib.Core.List.{List, [], _∷_}
+use Prim.Native.Nat.{ℕ, _*_, _≤_}
 use native.Mathlib.Omega.{arith}
 use lib.ListN.{length, take, drop}
 use lib.Seq.{take-at}
 use lib.Dec.{eqb}
 use borrow.Author.Tests.{eq-eqb}
 use Rattle.laws.proofs.Bits.{Under}
-use Rattle.laws.proofs.Cases.{if-yes}
 use Rattle.block.specs.declared.Letter.the-variants.{A}
 use Rattle.frame.specs.OnAir.{streamOf}
 use Rattle.air.specs.OnAir.{framesFor, framesOf, answerOf, airedOf, outputOf}
@@ -18,7 +17,7 @@ use Rattle.receiver.specs.declared.Phase.the-variants.{Locked}
 use Rattle.receiver.specs.Receive.{freshReceiver}
 use Rattle.receiver.specs.Calls.{Call, allTaken, allFrames, lastReceiver, delivered, inBounds}
 use Rattle.receiver.proofs.CleanAir.{AreFrames, clean-air}
-use Rattle.promises.proofs.Sent.{Taken, taken, frames-few, are-frames}
+use Rattle.promises.proofs.Sent.{taken, frames-few, are-frames}
 
 module _ (p : List ℕ) (l v : ℕ) (out : List ℕ) (e : answerOf p l v out ≡ 0) where
   -- so many frames, thirteen bytes each

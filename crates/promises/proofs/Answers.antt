@@ -1,15 +1,13 @@
 -- Demand 1: each number exactly in its case, and what a refusal leaves as it was. Assumes nothing.
-use mathlib.Core.Path.{_≡_, refl, sym, ap, _∙_}
+use mathlib.Core.Path.{_≡_, refl}
 use mathlib.Core.Bool.{true, false}
 use mathlib.Core.List.{List}
-use Prim.Native.Nat.{ℕ, zero, suc}
+use Prim.Native.Nat.{ℕ, zero}
 use lib.ListN.{length}
-use lib.Dec.{eqb}
 use borrow.Author.Tests.{ne-eqb}
 use Rattle.laws.specs.Refusals.{Case, first, among, apart}
 use Rattle.laws.proofs.Cases.{if-no}
 use Rattle.laws.proofs.Refusals.{exact, done, listed}
-use Rattle.frame.specs.declared.Heading.{Heading}
 use Rattle.frame.specs.Heading.{refusals, noHeading, headingOf}
 use Rattle.frame.proofs.Accepted.{refusals-apart}
 use Rattle.air.specs.OnAir.{cases, answerOf, airedOf, outputOf}

@@ -1,21 +1,21 @@
 -- What is known of a packet that the on-air writer takes, and of its frames. Assumes nothing.
-use mathlib.Core.Path.{_≡_, refl, sym, ap, _∙_}
+use mathlib.Core.Path.{_≡_, refl}
 use mathlib.Core.Bool.{Bool, true, false, not}
 use mathlib.Core.List.{List, [], _∷_, _++_}
 use Prim.Native.Nat.{ℕ, zero, suc, _+_, _*_, _/_, _%_, _^_, _<_, _≤_}
 use native.Mathlib.Omega.{arith}
 use lib.ListN.{length, getD}
-use lib.Dec.{eqb, leb, ltb}
+use lib.Dec.{leb, ltb}
 use borrow.Author.Tests.{eqb-true, leb-true, ltb-false, not-true}
 use Rattle.laws.specs.Bits.{at, bits}
-use Rattle.laws.specs.Refusals.{first, none, among, apart}
+use Rattle.laws.specs.Refusals.{none, among, apart}
 use Rattle.laws.proofs.Bits.{Under, under-append}
 use Rattle.laws.proofs.Cases.{and-left, and-right}
 use Rattle.laws.proofs.Refusals.{done}
 use Rattle.crc.specs.Crc16.{crc16}
 use Rattle.crc.proofs.Remainder.{packet-check-is-remainder}
 use Rattle.frame.specs.declared.Heading.{Heading}
-use Rattle.frame.specs.Heading.{Fits, reserved, headingBytes}
+use Rattle.frame.specs.Heading.{Fits, reserved}
 use Rattle.frame.proofs.Back.{bytes-of}
 use Rattle.frame.proofs.Accepted.{level-bounds}
 use Rattle.air.specs.OnAir.{framesFor, checked, carried, frameOf, headingFor, framesFrom, framesOf, sized, cases, answerOf}
