@@ -1,5 +1,5 @@
 pub mod Fields
 pub mod Back
+pub mod OnAir
 pub mod Accepted
 pub mod Alike
-pub mod OnAir

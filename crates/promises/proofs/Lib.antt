@@ -1,1 +1,8 @@
 pub mod Pier
+pub mod Single
+pub mod Answers
+pub mod Sent
+pub mod Air
+pub mod Joined
+pub mod Pieces
+pub mod Frames

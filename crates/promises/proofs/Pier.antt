@@ -1,11 +1,19 @@
 -- Every pier example marked P holds, by computation. Assumes nothing.
 use mathlib.Core.Path.{_≡_, refl}
 use mathlib.Core.Bool.{true}
+use Rattle.laws.specs.Bits.{at, bitsOf, run, spread}
 use Rattle.laws.specs.Poly.{reduce, remainder}
+use Rattle.laws.specs.Refusals.{first}
 use Rattle.laws.specs.Scan.{all}
 use Rattle.block.specs.Block.{syndrome, checkWord}
+use Rattle.frame.specs.Heading.{fixed, reserved, outside, refusals, fieldsOf, headingOf, headingBits, headingWords, headingBytes}
+use Rattle.air.specs.OnAir.{framesFor}
+use Rattle.format.specs.Format.{times, size, need, encode, fill, inside, fine}
+use Rattle.packet.specs.Table.{formOf, contentLines, packet}
+use Rattle.packet.specs.Content.{leap, daysIn}
+use Rattle.packet.specs.Writing.{frontFor, backFor, bodyFor, sizeFor, tableFor, numbersFor, bytesFor, countBad, digitBad, notTaken, writtenAnswer}
 use Rattle.promises.specs.Pier.{holds, examples}
 
 pub pier : all holds examples ≡ true
-unfolding all holds examples checkWord syndrome remainder reduce
+unfolding all holds examples checkWord syndrome remainder reduce at bitsOf run spread first fixed reserved outside refusals fieldsOf headingOf headingBits headingWords headingBytes framesFor times size need encode fill inside fine formOf contentLines packet leap daysIn frontFor backFor bodyFor sizeFor tableFor numbersFor bytesFor countBad digitBad notTaken writtenAnswer
 pier = refl

@@ -1,0 +1,125 @@
+#!/usr/bin/env python3
+"""Air bytes to try the chain with, written from paper 01 alone. The same seed makes the same bytes.
+
+  tests/make_air.py SEED      writes stream SEED to standard output
+"""
+import random
+import sys
+
+OFFSETS = (0x0FC, 0x198, 0x168, 0x1B4)
+
+
+def check(info):
+    """What is left of info times x^10, divided by the generator."""
+    rest = info << 10
+    for i in range(15, -1, -1):
+        if rest >> (i + 10) & 1:
+            rest ^= 0b10110111001 << i
+    return rest
+
+
+def crc16(data):
+    r = 0xFFFF
+    for byte in data:
+        r ^= byte << 8
+        for _ in range(8):
+            r = (r << 1 ^ (0x1021 if r & 0x8000 else 0)) & 0xFFFF
+    return r
+
+
+def packet(rng, size):
+    head = rng.randrange(32) << 11 | size - 2
+    return bytes((head >> 8, head & 255)) + rng.randbytes(size - 2)
+
+
+def frame(level, version, total, number, four, fixed=0b101100000000):
+    one = level << 13 | version << 8 | total << 2 | number >> 4
+    two = fixed << 4 | number & 15
+    return bytes((one >> 8, one & 255, two >> 8, two & 255)) + four
+
+
+def frames(rng, level, version, data, fault=None):
+    """The frames of a packet; a fault makes its check or its fill wrong."""
+    total = (len(data) + 5) // 4
+    joined = bytearray(data) + crc16(data).to_bytes(2, "big") + b"\xff" * (total * 4 - len(data) - 2)
+    if fault:
+        joined[-1] ^= 1 << rng.randrange(8)
+    return [frame(level, version, total, k, bytes(joined[4 * k : 4 * k + 4])) for k in range(total)]
+
+
+def bits_of(some):
+    """The bits on air of some frames, as text."""
+    out = []
+    for f in some:
+        for k, offset in enumerate(OFFSETS):
+            info = f[2 * k] << 8 | f[2 * k + 1]
+            out.append(format(info << 10 | check(info) ^ offset, "026b"))
+    return "".join(out)
+
+
+def packed(bits):
+    bits += "0" * (-len(bits) % 8)
+    return bytes(int(bits[i : i + 8], 2) for i in range(0, len(bits), 8))
+
+
+def odd_frame(rng):
+    """A frame that no right sender sends."""
+    kind = rng.randrange(4)
+    if kind == 0:
+        return frame(rng.randrange(1, 7), rng.randrange(32), 5, 1, rng.randbytes(4), 0b101100000000 ^ 1 << rng.randrange(12))
+    if kind == 1:
+        return frame(rng.choice((0, 7)), rng.randrange(32), 5, 1, rng.randbytes(4))
+    if kind == 2:
+        total = rng.choice((0, 1, 20, 63))
+        return frame(5, 3, total, rng.randrange(total, 64), rng.randbytes(4))
+    return rng.randbytes(8)
+
+
+def traffic(rng):
+    """Frames of some packets: in order, or shuffled, with repeats, contradictions and odd ones."""
+    pairs = [(rng.randrange(1, 7), rng.randrange(32)) for _ in range(rng.choice((1, 2, 3, 4, 4, 6)))]
+    sent = []
+    for level, version in pairs:
+        data = packet(rng, rng.choice((2, 3, 5, 8, 30, 77, 78, 79, 250)))
+        sent += frames(rng, level, version, data, rng.randrange(4) == 0)
+    if rng.randrange(4) == 0:
+        sent += frames(rng, *pairs[0], packet(rng, rng.choice((2, 8, 30))))
+    if rng.randrange(2):
+        sent += rng.choices(sent, k=len(sent) // 3 + 1)
+        sent += [odd_frame(rng) for _ in range(rng.randrange(6))]
+        rng.shuffle(sent)
+    return sent
+
+
+def damaged(rng, bits):
+    """Some bits turned, lost or put in, at places drawn at random."""
+    some = list(bits)
+    for _ in range(rng.randrange(1, 12)):
+        at = rng.randrange(len(some))
+        turned = {"0": "1", "1": "0"}.get(some[at], some[at])
+        some[at] = rng.choice((turned, "", some[at] + rng.choice("01")))
+    return "".join(some)
+
+
+def noise(rng, n):
+    return "".join(rng.choice("01") for _ in range(n))
+
+
+def stream(seed):
+    rng = random.Random(seed)
+    kind = ("clean", "noise", "damaged", "cut", "mixed")[seed % 5]
+    if kind == "noise":
+        return kind, rng.randbytes(rng.choice((0, 1, 3, 13, 511, 512, 513, 1500)))
+    bits = bits_of(traffic(rng))
+    if kind == "cut":
+        a = rng.randrange(len(bits))
+        bits = bits[a : rng.randrange(a, len(bits))]
+    if kind == "damaged":
+        bits = damaged(rng, bits)
+    if kind == "mixed":
+        bits = noise(rng, rng.randrange(120)) + damaged(rng, bits) + noise(rng, rng.randrange(120)) + bits_of(traffic(rng))
+    return kind, packed(bits)
+
+
+if __name__ == "__main__":
+    sys.stdout.buffer.write(stream(int(sys.argv[1]))[1])
