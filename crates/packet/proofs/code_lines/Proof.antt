@@ -1,3 +1,4 @@
+-- `packet::code_lines` meets its contract. Assumes nothing.
 use borrow.Author.Needs.{needs}
 use Rattle.packet.proofs.code_lines.Statement.{statement}
 use Rattle.packet.proofs.code_lines.Tie as tie

@@ -1,3 +1,4 @@
+-- `packet::ending_lines` meets its contract. Assumes nothing.
 use borrow.Author.Needs.{needs}
 use Rattle.packet.proofs.ending_lines.Statement.{statement}
 use Rattle.packet.proofs.ending_lines.Tie as tie

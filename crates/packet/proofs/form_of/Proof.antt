@@ -1,3 +1,4 @@
+-- `packet::form_of` meets its contract. Assumes nothing.
 use Rattle.packet.specs.Table.{formOf}
 use Rattle.packet.proofs.Forms as forms
 use Rattle.packet.proofs.form_of.Statement.{statement}

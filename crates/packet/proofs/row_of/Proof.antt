@@ -1,3 +1,4 @@
+-- `packet::row_of` meets its contract. Assumes nothing.
 use borrow.Author.Needs.{needs}
 use Rattle.packet.proofs.row_of.Statement.{statement}
 use Rattle.packet.proofs.row_of.Tie as tie

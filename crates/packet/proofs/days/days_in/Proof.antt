@@ -1,3 +1,4 @@
+-- `packet::days::days_in` meets its contract. Assumes nothing.
 use mathlib.Core.Path.{sym, _∙_}
 use borrow.Author.Tests.{ne-eqb}
 use Rattle.packet.specs.Content.{daysIn}

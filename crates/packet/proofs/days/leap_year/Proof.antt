@@ -1,3 +1,4 @@
+-- `packet::days::leap_year` meets its contract. Assumes nothing.
 use borrow.Author.Tests.{eq-eqb, ne-eqb}
 use Prim.Native.Nat.{_%_}
 use Rattle.packet.specs.Content.{leap}

@@ -1,3 +1,4 @@
+-- `packet::rows::a_ones` meets its contract. Assumes nothing.
 use Rattle.packet.proofs.rows.a_ones.Statement.{statement}
 use Rattle.packet.proofs.rows.a_ones.Tie as tie
 

@@ -1,3 +1,4 @@
+-- `packet::rows::an_any` meets its contract. Assumes nothing.
 use Rattle.packet.proofs.rows.an_any.Statement.{statement}
 use Rattle.packet.proofs.rows.an_any.Tie as tie
 

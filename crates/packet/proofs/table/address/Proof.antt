@@ -1,3 +1,4 @@
+-- `packet::table::address` meets its contract. Assumes nothing.
 use borrow.Author.Needs.{needs}
 use Rattle.packet.proofs.table.address.Statement.{statement}
 use Rattle.packet.proofs.table.address.Tie as tie

@@ -1,3 +1,4 @@
+-- `packet::table::clock` meets its contract. Assumes nothing.
 use borrow.Author.Needs.{needs}
 use Rattle.packet.proofs.table.clock.Statement.{statement}
 use Rattle.packet.proofs.table.clock.Tie as tie

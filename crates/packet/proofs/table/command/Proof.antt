@@ -1,3 +1,4 @@
+-- `packet::table::command` meets its contract. Assumes nothing.
 use borrow.Author.Needs.{needs}
 use Rattle.packet.proofs.table.command.Statement.{statement}
 use Rattle.packet.proofs.table.command.Tie as tie

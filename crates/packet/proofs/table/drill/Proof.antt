@@ -1,3 +1,4 @@
+-- `packet::table::drill` meets its contract. Assumes nothing.
 use borrow.Author.Needs.{needs}
 use Rattle.packet.proofs.table.drill.Statement.{statement}
 use Rattle.packet.proofs.table.drill.Tie as tie

@@ -1,3 +1,4 @@
+-- `packet::table::factory` meets its contract. Assumes nothing.
 use borrow.Author.Needs.{needs}
 use Rattle.packet.proofs.table.factory.Statement.{statement}
 use Rattle.packet.proofs.table.factory.Tie as tie

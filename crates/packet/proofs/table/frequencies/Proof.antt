@@ -1,3 +1,4 @@
+-- `packet::table::frequencies` meets its contract. Assumes nothing.
 use borrow.Author.Needs.{needs}
 use Rattle.packet.proofs.table.frequencies.Statement.{statement}
 use Rattle.packet.proofs.table.frequencies.Tie as tie

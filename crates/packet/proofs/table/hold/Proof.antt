@@ -1,3 +1,4 @@
+-- `packet::table::hold` meets its contract. Assumes nothing.
 use borrow.Author.Needs.{needs}
 use Rattle.packet.proofs.table.hold.Statement.{statement}
 use Rattle.packet.proofs.table.hold.Tie as tie

@@ -1,3 +1,4 @@
+-- `packet::table::keep` meets its contract. Assumes nothing.
 use borrow.Author.Needs.{needs}
 use Rattle.packet.proofs.table.keep.Statement.{statement}
 use Rattle.packet.proofs.table.keep.Tie as tie

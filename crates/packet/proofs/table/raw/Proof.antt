@@ -1,3 +1,4 @@
+-- `packet::table::raw` meets its contract. Assumes nothing.
 use mathlib.Core.Path.{refl, ap, _∙_}
 use mathlib.Core.List.{[], _∷_}
 use Rattle.format.specs.declared.Line.{Line}

@@ -1,3 +1,4 @@
+-- `packet::table::reset` meets its contract. Assumes nothing.
 use borrow.Author.Needs.{needs}
 use Rattle.packet.proofs.table.reset.Statement.{statement}
 use Rattle.packet.proofs.table.reset.Tie as tie

@@ -1,3 +1,4 @@
+-- `packet::table::text` meets its contract. Assumes nothing.
 use borrow.Author.Needs.{needs}
 use Rattle.packet.proofs.table.text.Statement.{statement}
 use Rattle.packet.proofs.table.text.Tie as tie
