@@ -1,3 +1,5 @@
 pub mod Fields
 pub mod Back
+pub mod Accepted
+pub mod Alike
 pub mod OnAir

@@ -1,7 +1,7 @@
 -- What is known of a list from a test of its elements, and what a store keeps of it. Assumes nothing.
-use mathlib.Core.Path.{_≡_, refl, sym, ap, _∙_}
+use mathlib.Core.Path.{_≡_, refl, sym, ap, ap₂, _∙_}
 use mathlib.Core.List.{List, [], _∷_, _++_, map}
-use mathlib.Core.Bool.{Bool, true, false}
+use mathlib.Core.Bool.{Bool, true, false, cond, not, _&&_}
 use Prim.Native.Nat.{ℕ, zero, suc, _+_, _<_, _≤_}
 use native.Mathlib.Nat.{le-of-lt, not-suc-le-zero, le-of-suc-le-suc}
 use native.Mathlib.Numerals.{add-one}
@@ -11,7 +11,8 @@ use lib.Seq.{drop-cons, set-at, length-take-le, append-snoc, take-suc}
 use lib.Dec.{ltb}
 use borrow.Author.Tests.{lt-ltb, le-ltb}
 use Rattle.laws.specs.Scan.{all, indexOf}
-use Rattle.laws.proofs.Cases.{if-yes, if-no, and-yes, and-left, and-right}
+use Rattle.laws.specs.Refusals.{Case, first, none}
+use Rattle.laws.proofs.Cases.{if-yes, if-no, and-yes, and-no, and-left, and-right}
 
 -- a test is true or false
 pub by-test : {P : Type 0} (b : Bool) → (b ≡ true → P) → (b ≡ false → P) → P
@@ -102,3 +103,14 @@ module _ {A : Type 0} (f : A → Bool) where
       (λ t.
       let w : i ≡ suc (indexOf f xs) = e ∙ index-no x xs t in
       rw w (index-holds xs d (indexOf f xs) refl (omega arith)))
+
+-- ---- refusals in two parts: those of the first, else those of the second
+pub first-append : (as₁ as₂ : List Case) → first (as₁ ++ as₂) ≡ cond (none as₁) (first as₂) (first as₁)
+unfolding first none
+first-append [] bs = refl
+first-append (a ∷ as₁) bs =
+    by-test (a .0)
+    (λ t. if-yes _ _ t ∙ sym (if-no _ _ (and-no _ (ap not t)) ∙ if-yes _ _ t))
+    (λ t.
+    if-no _ _ t ∙ first-append as₁ bs
+    ∙ sym (ap₂ (λ (b : Bool) (n : ℕ). cond b (first bs) n) (and-yes (none as₁) (ap not t)) (if-no _ _ t)))

@@ -102,3 +102,8 @@ pass n cs e = if-no n (first cs) e
 pub none-left : first [] ≡ 0
 unfolding first
 none-left = refl
+
+-- an answer of 0 passed every case
+pub not-due : (t : Bool) (n : ℕ) (cs : List Case) → first ((t, suc n) ∷ cs) ≡ 0 → (t ≡ false) × (first cs ≡ 0)
+not-due true n cs e = absurd (omega (arith, sym (stop (suc n) cs refl) ∙ e))
+not-due false n cs e = (refl, sym (pass (suc n) cs refl) ∙ e)

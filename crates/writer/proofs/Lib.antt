@@ -12,3 +12,6 @@ pub mod Fine
 pub mod Rules
 pub mod Digits
 pub mod Taken
+pub mod Size
+pub mod Answers
+pub mod Written

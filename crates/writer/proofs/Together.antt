@@ -1,14 +1,14 @@
 -- A packet is its head, codes, content and ending, one behind the other. Assumes nothing.
-use mathlib.Core.Path.{_≡_, refl, sym, ap, _∙_}
+use mathlib.Core.Path.{_≡_, refl, sym, ap, _∙_, ap₂}
 use mathlib.Core.Bool.{true}
 use mathlib.Core.List.{List, _∷_, _++_, append-assoc, append-nil}
-use Prim.Native.Nat.{ℕ, _-_, _*_, _≤_}
+use Prim.Native.Nat.{ℕ, _-_, _*_, _≤_, _+_}
 use native.Mathlib.Omega.{arith}
 use lib.ListN.{length, replicate, length-append}
 use lib.Seq.{sets, take-at, drop-at, take-all}
 use Rattle.laws.specs.Bits.{bits, bitsOf, spread}
 use Rattle.laws.specs.Scan.{all}
-use Rattle.laws.proofs.Bits.{length-bitsOf}
+use Rattle.laws.proofs.Bits.{length-bitsOf, length-spread}
 use Rattle.format.specs.declared.Line.{Line}
 use Rattle.format.specs.Format.{just, size, need, encode, fill, times}
 use Rattle.format.proofs.Tables.{size-times, need-append, need-times}
@@ -62,6 +62,12 @@ unfolding encode fill headBits spread
 headed ts xs kind p n =
     rw (append-nil (bitsOf 5 kind), append-nil (bitsOf 11 (p - 2)), append-nil (bitsOf 8 n))
     (sym (append-assoc (bitsOf 5 kind) (bitsOf 11 (p - 2) ++ bitsOf 8 n) (encode ts (fill ts xs)) ∙ ap (λ (l : List ℕ). bitsOf 5 kind ++ l) (append-assoc (bitsOf 11 (p - 2)) (bitsOf 8 n) (encode ts (fill ts xs)))))
+
+ending-long : (time : ℕ) (certificate signature : List ℕ) → length certificate ≡ 12 → length signature ≡ 64 → length (endingBits time certificate signature) ≡ 592
+unfolding endingBits
+ending-long time certificate signature lc ls =
+    length-append (bitsOf 32 time) (spread 4 certificate ++ spread 8 signature)
+    ∙ omega (arith, length-append (spread 4 certificate) (spread 8 signature), length-bitsOf 32 time, length-spread 4 certificate, length-spread 8 signature)
 
 -- ---- the parts
 module _ (f : Fields) (codes body : List ℕ) (h : Counts f codes body) (d : length (f .digits) ≡ 35) (lc : length (f .certificate) ≡ 12) (ls : length (f .signature) ≡ 64) where
@@ -128,6 +134,15 @@ module _ (f : Fields) (codes body : List ℕ) (h : Counts f codes body) (d : len
   content-long : length (contentBits c (f .digits) body) ≡ contentSize c body
   unfolding contentBits contentSize
   content-long = encode-size (linesFor c body) middle (omega (arith, middle-long))
+
+  -- so many bits
+  pub packet-long : length (encode (tableFor f body) (valuesFor f codes body)) ≡ 24 + (f .codes * size code + (contentSize c body + 592))
+  packet-long =
+      ap length packet-parts
+      ∙ length-append (headBits (f .kind) (sizeFor f body) (f .codes)) _
+      ∙ ap₂ _+_ (head-long (f .kind) (sizeFor f body) (f .codes))
+      (length-append (encode (times (f .codes) code) (fill (times (f .codes) code) codes)) _
+      ∙ ap₂ _+_ codes-long (length-append (contentBits c (f .digits) body) (endingBits (f .time) (f .certificate) (f .signature)) ∙ ap₂ _+_ content-long (ending-long (f .time) (f .certificate) (f .signature) lc ls)))
 
   -- put one behind the other, they are the packet
   pub packet-put : (out a b e last : List ℕ) (p q r s : ℕ) → After out a 0 (headBits (f .kind) (sizeFor f body) (f .codes)) p 24

@@ -3,3 +3,30 @@ mod content;
 mod packets;
 mod puts;
 mod tests;
+
+ghost use mathlib.Core.Path.{_≡_};
+ghost use lib.ListN.{length};
+ghost use Rattle.packet.specs.Writing.{written, outputOf};
+use packet::Fields;
+use packet::Written;
+
+// Writes the packet of the fields at the output's start and answers its length: 23 digits a code in `codes`, and in `body`
+// what the content's count counts. 23, 26, 25, 27, 20 or 10 where it is refused, and then nothing is written.
+pub fn write(fields: Fields, codes: &[u8], body: &[u8], out: &mut [u8]) -> Written
+    ensures answer { λ r. ⌜ r ≡ written fields (now (codes .entry)) (now (body .entry)) (length (now (out .entry))) ⌝ }
+    ensures output { λ _. ⌜ now (out .exit) ≡ outputOf fields (now (codes .entry)) (now (body .entry)) (now (out .entry)) ⌝ }
+{
+    let a = tests::answer(fields, codes, body, out.len());
+    if a != 0 {
+        return Written {
+            answer: a,
+            length: 0,
+        };
+    }
+    let size = tests::size_of(fields, body.len());
+    packets::put_packet(fields, codes, body, size, out);
+    Written {
+        answer: 0,
+        length: size,
+    }
+}

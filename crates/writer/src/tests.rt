@@ -8,7 +8,7 @@ ghost use Rattle.packet.specs.declared.Form.the-variants as form;
 ghost use Rattle.packet.specs.Table.{rowOf, typeOf};
 ghost use Rattle.packet.specs.Content.{formFor, countFor, noSuchDay};
 ghost use Rattle.packet.specs.Writing.{rowFor, bodyFor, digitsBefore, digitsAfter, digitsLost, countBad, digitBad, notTaken, sizeFor, writtenAnswer};
-ghost use lib.Dec.{leb, eqb};
+ghost use lib.Dec.{leb, ltb, eqb};
 ghost use mathlib.Core.Logic.{_⊎_};
 ghost use Rattle.writer.specs.Parts.{Lent, Bodied, Counts};
 ghost use Rattle.writer.specs.Ranges.{clockFine, rangeFine, lostOf, badOf, bytesOf, somethingLost, rowsFine};
@@ -347,4 +347,50 @@ fn content_taken(f: Fields, codes: &[u8], body: &[u8]) -> bool
         return false;
     }
     numbers_fine(c, body)
+}
+
+// The size of the packet.
+pub(crate) fn size_of(f: Fields, lent: usize) -> usize
+    requires { ⌜ (f .codes ≤ 255) × (countOf (f .content) lent ≤ 2000) ⌝ }
+    ensures { λ r. ⌜ r ≡ 77 + 12 * f .codes + bytesOf (f .content) lent ⌝ }
+{
+    let c = f.content;
+    77 + 12 * f.codes + content_bytes(c, lent)
+}
+
+// The packet would have over 250 bytes; a raw body may be of any length.
+fn too_long(f: Fields, lent: usize) -> bool
+    requires { ⌜ f .codes ≤ 255 ⌝ }
+    ensures { λ r. ⌜ r ≡ ltb 250 (77 + 12 * f .codes + bytesOf (f .content) lent) ⌝ }
+{
+    let c = f.content;
+    if content::count_for(c, lent) > 1000 {
+        return true;
+    }
+    250 < size_of(f, lent)
+}
+
+// The writer's answer.
+pub(crate) fn answer(f: Fields, codes: &[u8], body: &[u8], room: usize) -> u8
+    ensures { λ r. ⌜ r ≡ writtenAnswer f (now (codes .entry)) (now (body .entry)) room ⌝ }
+{
+    if packet::type_of(packet::form_of(f.kind)) == 31 {
+        return 23;
+    }
+    if counts_bad(f, codes, body) {
+        return 26;
+    }
+    if !digits_fine(f, codes, body) {
+        return 25;
+    }
+    if !content_taken(f, codes, body) {
+        return 27;
+    }
+    if too_long(f, body.len()) {
+        return 20;
+    }
+    if room < size_of(f, body.len()) {
+        return 10;
+    }
+    0
 }

@@ -1,4 +1,4 @@
--- `frame::heading_of` meets its contract. Assumes nothing.
+-- `frame::heading_of` meets its contract: each way out has its law in Fields. Assumes nothing.
 use mathlib.Core.Path.{_∙_}
 use native.Mathlib.Omega.{arith}
 use Rattle.frame.proofs.Fields.{says-26, says-12, says-13, says-14, says-0, reserved-low, reserved-high}

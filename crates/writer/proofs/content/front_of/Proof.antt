@@ -1,3 +1,4 @@
+-- `writer::content::front_of` meets its contract. Assumes nothing.
 use Rattle.writer.proofs.Front.{fronted}
 use borrow.Author.Needs.{needs}
 use Rattle.writer.proofs.content.front_of.Statement.{statement}

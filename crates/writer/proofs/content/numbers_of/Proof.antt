@@ -1,3 +1,4 @@
+-- `writer::content::numbers_of` meets its contract. Assumes nothing.
 use mathlib.Core.Path.{refl}
 use native.Mathlib.Omega.{arith}
 use Rattle.writer.proofs.Front.{numbered-by}

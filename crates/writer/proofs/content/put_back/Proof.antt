@@ -1,3 +1,4 @@
+-- `writer::content::put_back` meets its contract. Assumes nothing.
 use mathlib.Core.Path.{_≡_, subst}
 use native.Mathlib.Omega.{arith}
 use lib.ListN.{length}

@@ -1,3 +1,4 @@
+-- `writer::content::put_body` meets its contract. Assumes nothing.
 use Rattle.writer.proofs.Contents.{small, entry-need, count-same, entries-body}
 use Rattle.writer.proofs.Shapes.{can-put-rows, have-put-rows}
 use mathlib.Core.Path.{_≡_, sym, ap, _∙_, subst}

@@ -1,3 +1,4 @@
+-- `writer::content::put_content` meets its contract. Assumes nothing.
 use mathlib.Core.Path.{_≡_, _∙_, subst}
 use Prim.Native.Nat.{ℕ}
 use native.Mathlib.Omega.{arith}

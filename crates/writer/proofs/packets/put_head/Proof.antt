@@ -1,3 +1,4 @@
+-- `writer::packets::put_head` meets its contract. Assumes nothing.
 use native.Mathlib.Omega.{arith}
 use Rattle.writer.proofs.Count.{field-put}
 use Rattle.writer.proofs.Whole.{head-put}

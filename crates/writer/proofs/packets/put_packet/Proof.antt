@@ -1,3 +1,4 @@
+-- `writer::packets::put_packet` meets its contract. Assumes nothing.
 use mathlib.Core.Path.{subst}
 use Rattle.writer.specs.Puts.{After}
 use Rattle.writer.specs.Parts.{headBits}

@@ -1,3 +1,4 @@
+-- `writer::puts::number_of` meets its contract. Assumes nothing.
 use mathlib.Core.Path.{sym, _∙_}
 use lib.ListN.{List·getD-eq-default}
 use native.Mathlib.Omega.{arith}

@@ -1,3 +1,4 @@
+-- `writer::puts::put_count` meets its contract. Assumes nothing.
 use Rattle.format.specs.Reach.{fieldBits}
 use Rattle.format.proofs.Leaves.{same-long}
 use Rattle.writer.proofs.Count.{no-count, count-put}

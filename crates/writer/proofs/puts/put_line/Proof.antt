@@ -1,3 +1,4 @@
+-- `writer::puts::put_line` meets its contract. Assumes nothing.
 use native.Mathlib.Omega.{arith}
 use Prim.Native.Nat.{_-_}
 use Rattle.writer.proofs.Line.{Going, sound-is, going-first, going-turn, going-last}

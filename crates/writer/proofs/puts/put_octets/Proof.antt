@@ -1,3 +1,4 @@
+-- `writer::puts::put_octets` meets its contract. Assumes nothing.
 use Rattle.format.specs.Reach.{fieldsBits}
 use Rattle.format.proofs.Leaves.{same-long}
 use Rattle.writer.proofs.Count.{octets-put}

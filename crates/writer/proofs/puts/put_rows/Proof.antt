@@ -1,3 +1,4 @@
+-- `writer::puts::put_rows` meets its contract. Assumes nothing.
 use Prim.Native.Nat.{_-_}
 use native.Mathlib.Omega.{arith}
 use Rattle.writer.proofs.Rows.{Going, going-first, next-row, puttable, going-turn, going-last}

@@ -1,3 +1,4 @@
+-- `writer::puts::widened` meets its contract. Assumes nothing.
 use mathlib.Core.Path.{_≡_}
 use mathlib.Core.Path.{refl}
 use Prim.Native.Nat.{_-_, _+_}

@@ -1,3 +1,4 @@
+-- `writer::puts::width` meets its contract. Assumes nothing.
 use mathlib.Core.Path.{refl}
 use native.Mathlib.Omega.{arith}
 use Rattle.writer.proofs.Line.{sound-is}

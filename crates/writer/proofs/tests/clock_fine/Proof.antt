@@ -1,3 +1,4 @@
+-- `writer::tests::clock_fine` meets its contract. Assumes nothing.
 use borrow.Author.Needs.{needs}
 use Rattle.writer.proofs.tests.clock_fine.Statement.{statement}
 use Rattle.writer.proofs.tests.clock_fine.Tie as tie

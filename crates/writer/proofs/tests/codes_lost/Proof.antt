@@ -1,3 +1,4 @@
+-- `writer::tests::codes_lost` meets its contract. Assumes nothing.
 use mathlib.Core.Path.{sym}
 use borrow.Author.Tests.{eq-eqb, ne-eqb}
 use Rattle.laws.proofs.Cases.{and-yes, and-no}

@@ -1,3 +1,4 @@
+-- `writer::tests::content_bytes` meets its contract. Assumes nothing.
 use native.Mathlib.Omega.{arith}
 use borrow.Author.Needs.{needs}
 use Rattle.writer.proofs.tests.content_bytes.Statement.{statement}

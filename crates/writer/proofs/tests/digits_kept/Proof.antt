@@ -1,3 +1,4 @@
+-- `writer::tests::digits_kept` meets its contract. Assumes nothing.
 use Rattle.writer.proofs.Digits.{digits-kept}
 use mathlib.Core.Path.{_≡_}
 use lib.ListN.{length}

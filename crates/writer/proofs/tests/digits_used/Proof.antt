@@ -1,3 +1,4 @@
+-- `writer::tests::digits_used` meets its contract. Assumes nothing.
 use native.Mathlib.Omega.{arith}
 use Rattle.format.specs.Format.{need}
 use borrow.Author.Needs.{needs}

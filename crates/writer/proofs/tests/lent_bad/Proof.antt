@@ -1,3 +1,4 @@
+-- `writer::tests::lent_bad` meets its contract. Assumes nothing.
 use mathlib.Core.Path.{sym, ap}
 use mathlib.Core.Bool.{not}
 use borrow.Author.Tests.{le-leb, lt-leb}

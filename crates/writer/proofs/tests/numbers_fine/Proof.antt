@@ -1,3 +1,4 @@
+-- `writer::tests::numbers_fine` meets its contract. Assumes nothing.
 use mathlib.Core.Path.{refl, sym, ap, _∙_}
 use mathlib.Core.Logic.{inr}
 use mathlib.Core.Bool.{not}

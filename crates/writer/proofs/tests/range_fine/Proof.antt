@@ -1,3 +1,4 @@
+-- `writer::tests::range_fine` meets its contract. Assumes nothing.
 use mathlib.Core.Path.{ap₂, _∙_}
 use mathlib.Core.Bool.{_&&_}
 use borrow.Author.Needs.{needs}

@@ -1,0 +1,20 @@
+-- `collector::empty` meets its contract. Assumes nothing.
+use mathlib.Core.Path.{ap}
+use mathlib.Core.List.{[], _∷_}
+use Rattle.collector.specs.declared.Place.{Place}
+use Rattle.collector.specs.declared.Collector.{Collector}
+use borrow.Author.Needs.{needs}
+use Rattle.collector.proofs.empty.Statement.{statement}
+use Rattle.collector.proofs.empty.Tie as tie
+
+free-requires : tie.Need-free-requires
+free-requires c κs = search needs
+
+abbrev four-of : Place → Collector
+four-of p = record { places = p ∷ p ∷ p ∷ p ∷ [] }
+
+returns : tie.Need-returns
+returns c = ap four-of (c .free .ensures)
+
+pub empty-spec : {M : Type 1} → statement M
+empty-spec = tie.close (tie.spec free-requires returns)

@@ -1,0 +1,132 @@
+-- The collector (paper 01, "Collector" and "Numbers given back"): four places, each for one pair.
+use mathlib.Core.Bool.{Bool, true, cond, not, _&&_, _||_}
+use mathlib.Core.List.{List, [], _∷_, _++_}
+use Prim.Native.Nat.{ℕ}
+use lib.ListN.{length, getD, set, replicate}
+use lib.Dec.{eqb}
+use Rattle.laws.specs.Scan.{all, indexOf}
+use Rattle.laws.specs.Refusals.{Case, first}
+use Rattle.frame.specs.declared.Heading.{Heading}
+use Rattle.frame.specs.Heading.{refusals, fieldsOf}
+use Rattle.collector.specs.declared.Place.{Place}
+use Rattle.collector.specs.declared.Collector.{Collector}
+use Rattle.collector.specs.declared.Piece.{Piece}
+use Rattle.collector.specs.declared.Offered.{Offered}
+use Rattle.collector.specs.declared.Copied.{Copied}
+use Rattle.collector.specs.Places.{free, blank, isPair, apart, fair, contradicts, again, taken, stored, freed, whole, spoiled, state, copyCases, copyAnswer, copyBytes}
+
+-- nothing is held
+abbrev pub nothing : Collector
+nothing = record { places = replicate 4 free }
+
+-- not 28: each held place is fair, and no two hold one pair
+unfoldable pub good : List Place → Bool
+good [] = true
+good (p ∷ ps) = fair p && (all (apart p) ps && good ps)
+
+-- ---- which place
+
+unfoldable pub indexOfPair : ℕ → ℕ → List Place → ℕ
+indexOfPair l v ps = indexOf (isPair l v) ps
+
+-- the place that is held for the pair
+abbrev pub placeOf : ℕ → ℕ → List Place → Place
+placeOf l v ps = getD ps (indexOfPair l v ps) blank
+
+abbrev pub isHeld : Place → Bool
+isHeld p = p .held
+
+abbrev pub isFree : Place → Bool
+isFree p = not (p .held)
+
+-- the first free place
+unfoldable pub indexOfFree : List Place → ℕ
+indexOfFree ps = indexOf isFree ps
+
+abbrev pub put : Collector → ℕ → Place → Collector
+put c i p = record { places = set (c .places) i p }
+
+-- ---- offer
+
+abbrev pub pieceWith : Heading → List ℕ → Piece
+pieceWith h f = record { heading = h; a = getD f 4 0; b = getD f 5 0; c = getD f 6 0; d = getD f 7 0 }
+
+-- what a frame says: its heading, and the four bytes of blocks 3 and 4
+abbrev pub pieceOf : List ℕ → Piece
+pieceOf f = pieceWith (fieldsOf f) f
+
+-- the place that is held for the frame's pair
+abbrev pub itsPlace : Collector → Piece → Place
+itsPlace c x = placeOf (x .heading .level) (x .heading .version) (c .places)
+
+-- where a frame is kept: in its pair's place, or in the first free one, taken for it
+unfoldable pub spot : Collector → Piece → ℕ
+spot c x =
+    cond (itsPlace c x .held) (indexOfPair (x .heading .level) (x .heading .version) (c .places)) (indexOfFree (c .places))
+
+unfoldable pub after : Collector → Piece → Place
+after c x = stored (cond (itsPlace c x .held) (itsPlace c x) (taken x)) x
+
+-- 15, 2, 16; then by what the pair is with the frame kept: 17, 1, or 0 where some number is missing
+unfoldable pub takeCases : Collector → Piece → List Case
+takeCases c x =
+    (itsPlace c x .held && contradicts (itsPlace c x) x, 15)
+    ∷ (itsPlace c x .held && again (itsPlace c x) x, 2)
+    ∷ (not (itsPlace c x .held) && all isHeld (c .places), 16)
+    ∷ (spoiled (after c x), 17)
+    ∷ (whole (after c x), 1)
+    ∷ []
+
+-- 0, 1 and 17 keep their frame
+unfoldable pub keeps : ℕ → Bool
+keeps n = eqb n 0 || (eqb n 1 || eqb n 17)
+
+-- an offer of what the heading lets in, to a good record; and a piece kept in place i, which was p
+unfoldable pub takenIn : Collector → Piece → Offered
+takenIn c x =
+    record {
+      answer = first (takeCases c x);
+      collector = cond (keeps (first (takeCases c x))) (put c (spot c x) (after c x)) c;
+    }
+
+unfoldable pub kept : Collector → ℕ → Place → Piece → Offered
+kept c i p x = record { answer = state (stored p x); collector = put c i (stored p x) }
+
+-- 28, then 26, 12, 13, 14 by the heading alone, then what the collector holds
+unfoldable pub offerCases : Collector → List ℕ → List Case
+offerCases c f = (not (good (c .places)), 28) ∷ (refusals f ++ takeCases c (pieceOf f))
+
+unfoldable pub offered : Collector → List ℕ → Offered
+offered c f =
+    record {
+      answer = first (offerCases c f);
+      collector = cond (keeps (first (offerCases c f))) (put c (spot c (pieceOf f)) (after c (pieceOf f))) c;
+    }
+
+-- ---- release: 28, 18
+
+unfoldable pub releaseCases : Collector → ℕ → ℕ → List Case
+releaseCases c l v = (not (good (c .places)), 28) ∷ (not (placeOf l v (c .places) .held), 18) ∷ []
+
+unfoldable pub released : Collector → ℕ → ℕ → Offered
+released c l v =
+    record {
+      answer = first (releaseCases c l v);
+      collector =
+          cond (eqb (first (releaseCases c l v)) 0)
+          (put c (indexOfPair l v (c .places)) (freed (placeOf l v (c .places))))
+          c;
+    }
+
+-- ---- copy: 28, 18, 10
+
+unfoldable pub copiedCases : Collector → ℕ → ℕ → ℕ → List Case
+copiedCases c l v n = (not (good (c .places)), 28) ∷ copyCases (placeOf l v (c .places)) n
+
+-- the answer for n bytes lent, and the packet's size; beside a refusal 0
+unfoldable pub answered : Collector → ℕ → ℕ → ℕ → Copied
+answered c l v n = copyAnswer (first (copiedCases c l v n)) (placeOf l v (c .places))
+
+-- what is lent, with the packet's bytes at its start; as it was beside a refusal
+unfoldable pub copied : Collector → ℕ → ℕ → List ℕ → List ℕ
+copied c l v out = copyBytes (first (copiedCases c l v (length out))) (placeOf l v (c .places)) out

@@ -1,0 +1,154 @@
+-- One place (paper 01, "Collector"), over the declared records. An array is the list of its elements.
+use mathlib.Core.Bool.{Bool, true, false, cond, not, _&&_, _||_}
+use mathlib.Core.List.{List, [], _∷_, _++_}
+use Prim.Native.Nat.{ℕ, _+_, _*_, _<_}
+use lib.ListN.{length, getD, set, take, drop, replicate}
+use lib.Dec.{leb, ltb, eqb}
+use Rattle.laws.specs.Scan.{all}
+use Rattle.laws.specs.Refusals.{Case, first}
+use Rattle.frame.specs.declared.Number.{Number}
+use Rattle.collector.specs.declared.Place.{Place}
+use Rattle.collector.specs.declared.Piece.{Piece}
+use Rattle.collector.specs.declared.Copied.{Copied}
+use Rattle.collector.specs.Whole.{packetSize, passes}
+
+-- a place that was never taken
+abbrev pub free : Place
+free = record { held = false; level = 0; version = 0; total = record { 0 = 0 }; marks = replicate 63 false; bytes = replicate 252 0 }
+
+-- what stands for the place of a pair that no place is held for
+abbrev pub blank : Place
+blank = record { held = false; level = 0; version = 0; total = record { 0 = 0 }; marks = []; bytes = [] }
+
+-- held for this level and version
+abbrev pub isPair : ℕ → ℕ → Place → Bool
+isPair l v p = p .held && (eqb (p .level) l && eqb (p .version) v)
+
+-- both are held, for one pair
+abbrev pub samePair : Place → Place → Bool
+samePair p q = p .held && isPair (p .level) (p .version) q
+
+abbrev pub apart : Place → Place → Bool
+apart p q = not (samePair p q)
+
+-- ---- marks: all that is said of them goes through these two, save that none stands where nothing may
+
+-- the number is held
+abbrev pub marked : Place → Number → Bool
+marked p n = getD (p .marks) (n .0) false
+
+-- the marks with one more
+abbrev pub withMark : List Bool → Number → List Bool
+withMark ms n = set ms (n .0) true
+
+abbrev pub isSet : Bool → Bool
+isSet b = b
+
+abbrev pub isClear : Bool → Bool
+isClear b = not b
+
+-- no mark stands at a number that is not below the total
+unfoldable pub marksBelow : Place → Bool
+marksBelow p = all isClear (drop (p .total .0) (p .marks))
+
+-- all numbers below the total are held
+unfoldable pub complete : Place → Bool
+complete p = all isSet (take (p .total .0) (p .marks))
+
+-- 28 asks this of a held place: level, version and total in range, no mark at a number not below the total
+unfoldable pub fair : Place → Bool
+fair p =
+    not (p .held)
+    || (leb 1 (p .level)
+    && (leb (p .level) 6 && (leb (p .version) 31 && (leb 1 (p .total .0) && (leb (p .total .0) 63 && marksBelow p)))))
+
+-- ---- a frame against a place of its pair
+
+-- the number of an accepted frame is one that a place has room for
+abbrev pub Small : Piece → Type 0
+Small x = x .heading .number .0 < 63
+
+-- the four bytes at the frame's number are the frame's
+abbrev pub sameFour : Place → Piece → Bool
+sameFour p x =
+    eqb (getD (p .bytes) (x .heading .number .0 * 4) 0) (x .a)
+    && (eqb (getD (p .bytes) (x .heading .number .0 * 4 + 1) 0) (x .b)
+    && (eqb (getD (p .bytes) (x .heading .number .0 * 4 + 2) 0) (x .c)
+    && eqb (getD (p .bytes) (x .heading .number .0 * 4 + 3) 0) (x .d)))
+
+-- 15: another total, or the same number with other bytes
+unfoldable pub contradicts : Place → Piece → Bool
+contradicts p x =
+    not (eqb (p .total .0) (x .heading .total .0)) || (marked p (x .heading .number) && not (sameFour p x))
+
+-- 2: the same frame is held already
+unfoldable pub again : Place → Piece → Bool
+again p x = marked p (x .heading .number) && sameFour p x
+
+unfoldable pub against : Place → Piece → ℕ
+against p x = first ((contradicts p x, 15) ∷ (again p x, 2) ∷ [])
+
+-- ---- a place changes
+
+-- a place is taken: zeroed, no mark
+unfoldable pub taken : Piece → Place
+taken x =
+    record {
+      held = true;
+      level = x .heading .level;
+      version = x .heading .version;
+      total = x .heading .total;
+      marks = replicate 63 false;
+      bytes = replicate 252 0;
+    }
+
+-- a frame is kept: its mark, and its four bytes at four times its number
+unfoldable pub stored : Place → Piece → Place
+stored p x =
+    record {
+      held = p .held;
+      level = p .level;
+      version = p .version;
+      total = p .total;
+      marks = withMark (p .marks) (x .heading .number);
+      bytes =
+          set
+          (set
+          (set (set (p .bytes) (x .heading .number .0 * 4) (x .a)) (x .heading .number .0 * 4 + 1) (x .b))
+          (x .heading .number .0 * 4 + 2)
+          (x .c))
+          (x .heading .number .0 * 4 + 3)
+          (x .d);
+    }
+
+-- a place is released: free, bytes and marks as they were
+unfoldable pub freed : Place → Place
+freed p =
+    record { held = false; level = p .level; version = p .version; total = p .total; marks = p .marks; bytes = p .bytes }
+
+-- ---- whole or spoiled, from the marks and bytes alone
+
+-- the 4N bytes joined
+abbrev pub joined : Place → List ℕ
+joined p = take (p .total .0 * 4) (p .bytes)
+
+unfoldable pub whole : Place → Bool
+whole p = complete p && passes (joined p)
+
+unfoldable pub spoiled : Place → Bool
+spoiled p = complete p && not (passes (joined p))
+
+-- 17, 1, or 0 where some number is missing
+unfoldable pub state : Place → ℕ
+state p = first ((spoiled p, 17) ∷ (whole p, 1) ∷ [])
+
+-- ---- copy from a place: 18, 10, else 0, the packet's size and its bytes at the start of what is lent
+
+unfoldable pub copyCases : Place → ℕ → List Case
+copyCases p n = (not (p .held && whole p), 18) ∷ (ltb n (packetSize (joined p)), 10) ∷ []
+
+unfoldable pub copyAnswer : ℕ → Place → Copied
+copyAnswer a p = record { answer = a; length = cond (eqb a 0) (packetSize (joined p)) 0 }
+
+unfoldable pub copyBytes : ℕ → Place → List ℕ → List ℕ
+copyBytes a p out = cond (eqb a 0) (take (packetSize (joined p)) (joined p) ++ drop (packetSize (joined p)) out) out

@@ -1,0 +1,263 @@
+// One place: its pair, its marks, its bytes, and what it is by them.
+ghost use mathlib.Core.Path.{_≡_};
+ghost use mathlib.Core.Bool.{true, false};
+ghost use mathlib.Core.List.{List, _++_};
+ghost use Prim.Native.Nat.{ℕ, _+_, _*_, _<_, _≤_};
+ghost use lib.ListN.{length, getD, set, take, drop};
+ghost use Rattle.laws.specs.Refusals.{first};
+ghost use Rattle.collector.specs.Whole.{passes, packetSize};
+ghost use Rattle.collector.specs.Places.{Small, free as nowhere, isPair, samePair, marked, withMark, marksBelow, complete as allHeld, fair, sameFour, against, stored, taken, freed as madeFree, joined, state, copyCases, copyAnswer, copyBytes};
+use crate::Copied;
+use crate::Number;
+use crate::Piece;
+use crate::Place;
+use crate::Total;
+use crate::whole;
+
+// A place that was never taken.
+pub(crate) fn free() -> Place
+    ensures { λ r. ⌜ r ≡ nowhere ⌝ }
+{
+    Place {
+        held: false,
+        level: 0,
+        version: 0,
+        total: Total(0),
+        marks: [false; 63],
+        bytes: [0; 252],
+    }
+}
+
+// Whether the place is held for this level and version.
+pub(crate) fn is_pair(p: Place, level: u8, version: u8) -> bool
+    ensures { λ r. ⌜ r ≡ isPair level version p ⌝ }
+{
+    if !p.held {
+        return false;
+    }
+    if p.level != level {
+        return false;
+    }
+    p.version == version
+}
+
+pub(crate) fn same_pair(p: Place, q: Place) -> bool
+    ensures { λ r. ⌜ r ≡ samePair p q ⌝ }
+{
+    if !p.held {
+        return false;
+    }
+    is_pair(q, p.level, p.version)
+}
+
+// Marks are read here alone.
+fn is_marked(marks: &[bool; 63], number: Number) -> bool
+    requires { ⌜ number .0 < 63 ⌝ }
+    ensures { λ r. ⌜ r ≡ getD (now (marks .entry)) (number .0) false ⌝ }
+{
+    let n = number.0 as usize;
+    marks[n]
+}
+
+// Marks are set here alone.
+fn set_mark(marks: &mut [bool; 63], number: Number)
+    requires { ⌜ number .0 < 63 ⌝ }
+    ensures { λ r. ⌜ now (marks .exit) ≡ withMark (now (marks .entry)) number ⌝ }
+{
+    let n = number.0 as usize;
+    marks[n] = true;
+}
+
+// No mark stands at a number that is not below the total.
+fn marks_below(p: Place) -> bool
+    ensures { λ r. ⌜ r ≡ marksBelow p ⌝ }
+{
+    let mut n = p.total.0;
+    while n < 63 {
+        if is_marked(&p.marks, Number(n)) {
+            return false;
+        }
+        n += 1;
+    }
+    true
+}
+
+// Every number below the total is held.
+fn complete(p: Place) -> bool
+    ensures { λ r. ⌜ r ≡ allHeld p ⌝ }
+{
+    let total = p.total;
+    let mut n: u8 = 0;
+    while n < 63 {
+        if n == total.0 {
+            return true;
+        }
+        if !is_marked(&p.marks, Number(n)) {
+            return false;
+        }
+        n += 1;
+    }
+    true
+}
+
+// Whether a held place has level, version and total in range, and marks below its total only.
+pub(crate) fn is_fair(p: Place) -> bool
+    ensures { λ r. ⌜ r ≡ fair p ⌝ }
+{
+    if !p.held {
+        return true;
+    }
+    if p.level < 1 {
+        return false;
+    }
+    if p.level > 6 {
+        return false;
+    }
+    if p.version > 31 {
+        return false;
+    }
+    if p.total.0 < 1 {
+        return false;
+    }
+    if p.total.0 > 63 {
+        return false;
+    }
+    marks_below(p)
+}
+
+// Whether the four bytes at the frame's number are the frame's.
+fn same_four(p: Place, x: Piece) -> bool
+    requires { ⌜ Small x ⌝ }
+    ensures { λ r. ⌜ r ≡ sameFour p x ⌝ }
+{
+    let n = x.heading.number;
+    let at = n.0 as usize * 4;
+    if p.bytes[at] != x.a {
+        return false;
+    }
+    if p.bytes[at + 1] != x.b {
+        return false;
+    }
+    if p.bytes[at + 2] != x.c {
+        return false;
+    }
+    p.bytes[at + 3] == x.d
+}
+
+// 15 where the frame contradicts the place, 2 where the place holds it already, else 0.
+pub(crate) fn held_against(p: Place, x: Piece) -> u8
+    requires { ⌜ Small x ⌝ }
+    ensures { λ r. ⌜ r ≡ against p x ⌝ }
+{
+    if p.total.0 != x.heading.total.0 {
+        return 15;
+    }
+    if !is_marked(&p.marks, x.heading.number) {
+        return 0;
+    }
+    if same_four(p, x) { 2 } else { 15 }
+}
+
+// A place taken for the frame's pair, zeroed, with no mark.
+pub(crate) fn take(x: Piece) -> Place
+    ensures { λ r. ⌜ r ≡ taken x ⌝ }
+{
+    let total = x.heading.total;
+    let marks = [false; 63];
+    let bytes = [0; 252];
+    Place {
+        held: true,
+        level: x.heading.level,
+        version: x.heading.version,
+        total: total,
+        marks: marks,
+        bytes: bytes,
+    }
+}
+
+// The place with the frame's mark and its four bytes.
+pub(crate) fn store(p: Place, x: Piece) -> Place
+    requires { ⌜ Small x ⌝ }
+    ensures { λ r. ⌜ r ≡ stored p x ⌝ }
+{
+    let n = x.heading.number;
+    let at = n.0 as usize * 4;
+    let mut q = p;
+    set_mark(&mut q.marks, n);
+    q.bytes[at] = x.a;
+    q.bytes[at + 1] = x.b;
+    q.bytes[at + 2] = x.c;
+    q.bytes[at + 3] = x.d;
+    q
+}
+
+// The place made free, bytes and marks as they were.
+pub(crate) fn freed(p: Place) -> Place
+    ensures { λ r. ⌜ r ≡ madeFree p ⌝ }
+{
+    let mut q = p;
+    q.held = false;
+    q
+}
+
+// Whether the bytes joined, four for each number below the total, are a whole packet.
+fn joined_passes(p: Place) -> bool
+    ensures { λ r. ⌜ r ≡ passes (joined p) ⌝ }
+{
+    let n = p.total.0 as usize * 4;
+    let b = p.bytes;
+    if n <= 252 {
+        whole::passes(&b[0..n])
+    } else {
+        whole::passes(&b)
+    }
+}
+
+// 0 where some number is missing, else 1 where the packet is whole and 17 where it is spoiled.
+pub(crate) fn state_of(p: Place) -> u8
+    ensures { λ r. ⌜ r ≡ state p ⌝ }
+{
+    if !complete(p) {
+        return 0;
+    }
+    if joined_passes(p) { 1 } else { 17 }
+}
+
+// Writes the first n bytes of the place to the start of `out`.
+fn write_out(p: Place, n: usize, out: &mut [u8])
+    requires { ⌜ (n ≤ 252) × (n ≤ length (now out)) ⌝ }
+    ensures { λ r. ⌜ now (out .exit) ≡ take n (p .bytes) ++ drop n (now (out .entry)) ⌝ }
+{
+    let mut i = 0;
+    while i < n {
+        out[i] = p.bytes[i];
+        i += 1;
+    }
+}
+
+// Copies the packet of a held place to the start of `out`: 18 where it isn't whole, 10 where `out` is too short, else 0.
+pub(crate) fn copy_out(p: Place, out: &mut [u8]) -> Copied
+    requires { ⌜ (p .held ≡ true) × (p .total .0 ≤ 63) ⌝ }
+    ensures { λ r. ⌜ r ≡ copyAnswer (first (copyCases p (length (now (out .entry))))) p ⌝ }
+    ensures bytes { λ r. ⌜ now (out .exit) ≡ copyBytes (first (copyCases p (length (now (out .entry))))) p (now (out .entry)) ⌝ }
+{
+    if state_of(p) != 1 {
+        return Copied {
+            answer: 18,
+            length: 0,
+        };
+    }
+    let b = p.bytes;
+    let n = whole::packet_size(&b);
+    if out.len() < n {
+        return Copied {
+            answer: 10,
+            length: 0,
+        };
+    }
+    write_out(p, n, out);
+    Copied {
+        answer: 0,
+        length: n,
+    }
+}

@@ -1,0 +1,13 @@
+pub mod Lookup
+pub mod Outcome
+pub mod Keeping
+pub mod Stepping
+pub mod Room
+pub mod Declaring
+pub mod Taking
+pub mod Running
+pub mod Offering
+pub mod Copying
+pub mod Theorems
+pub mod Declared
+pub mod Repeats

@@ -1,0 +1,141 @@
+-- What frames give, from the frames alone: the four bytes of each number, by pair; and the answer due to a frame.
+use mathlib.Core.Bool.{Bool, true, false, cond, not, _&&_, _||_}
+use mathlib.Core.Path.{_≡_}
+use mathlib.Core.List.{List, [], _∷_, _++_, List·Memᴰ}
+use mathlib.Core.Option.{Option, none, some}
+use Prim.Native.Nat.{ℕ, zero, suc, _≤_}
+use lib.ListN.{length}
+use lib.Dec.{eqb}
+use Rattle.laws.specs.Below.{below}
+use Rattle.laws.specs.Refusals.{Case, first}
+use Rattle.frame.specs.declared.Total.{Total}
+use Rattle.frame.specs.declared.Number.{Number}
+use Rattle.frame.specs.Heading.{refusals, accepted}
+use Rattle.collector.specs.declared.Piece.{Piece}
+use Rattle.collector.specs.Whole.{passes}
+use Rattle.collector.specs.Collector.{pieceOf}
+use Rattle.order.specs.Held.{Four}
+
+-- ---- frames with accepted headings
+
+-- what those of a list say, in their order
+unfoldable pub pieces : List (List ℕ) → List Piece
+pieces [] = []
+pieces (f ∷ fs) = cond (accepted f) (pieceOf f ∷ pieces fs) (pieces fs)
+
+abbrev pub four : Piece → Four
+four x = (x .a, x .b, x .c, x .d)
+
+-- of this pair; and of this number too
+abbrev pub ofPair : ℕ → ℕ → Piece → Bool
+ofPair l v x = eqb (x .heading .level) l && eqb (x .heading .version) v
+
+abbrev pub ofKey : ℕ → ℕ → Number → Piece → Bool
+ofKey l v n x = ofPair l v x && eqb (x .heading .number .0) (n .0)
+
+abbrev pub sameBytes : Piece → Piece → Bool
+sameBytes x y = eqb (x .a) (y .a) && (eqb (x .b) (y .b) && (eqb (x .c) (y .c) && eqb (x .d) (y .d)))
+
+-- two frames contradict: the same pair, and different totals or the same number with different bytes
+unfoldable pub contradict : Piece → Piece → Bool
+contradict x y =
+    ofPair (y .heading .level) (y .heading .version) x
+    && (not (eqb (x .heading .total .0) (y .heading .total .0))
+    || (eqb (x .heading .number .0) (y .heading .number .0) && not (sameBytes x y)))
+
+-- ---- pairs
+
+abbrev pub Pair : Type 0
+Pair = ℕ × ℕ
+
+abbrev pub samePair : ℕ → ℕ → Pair → Bool
+samePair l v a = eqb (a .0) l && eqb (a .1) v
+
+-- the pair is among those of the list
+unfoldable pub among : ℕ → ℕ → List Pair → Bool
+among l v [] = false
+among l v (a ∷ qs) = samePair l v a || among l v qs
+
+-- ---- the bounds of demand 3: accepted headings name four pairs at most, and no two accepted frames contradict
+pub record Bounded (qs : List Pair) (fs : List (List ℕ)) : Type 0 where
+  pub few : length qs ≤ 4
+  pub listed : (f : List ℕ) → List·Memᴰ f fs → accepted f ≡ true → among (pieceOf f .heading .level) (pieceOf f .heading .version) qs ≡ true
+  pub clear : (f g : List ℕ) → List·Memᴰ f fs → List·Memᴰ g fs → accepted f ≡ true → accepted g ≡ true → contradict (pieceOf f) (pieceOf g) ≡ false
+
+-- the same frames in another order
+pub data Rearranged : List (List ℕ) → List (List ℕ) → Type 0 where
+  none-left : Rearranged [] []
+  one-kept : {f : List ℕ} {fs gs : List (List ℕ)} → Rearranged fs gs → Rearranged (f ∷ fs) (f ∷ gs)
+  two-swapped : {f g : List ℕ} {fs : List (List ℕ)} → Rearranged (f ∷ g ∷ fs) (g ∷ f ∷ fs)
+  and-then : {fs gs hs : List (List ℕ)} → Rearranged fs gs → Rearranged gs hs → Rearranged fs hs
+
+-- ---- what they give
+
+-- what the first frame says that passes a test
+unfoldable pub firstOf : {B : Type 0} → (Piece → Bool) → (Piece → B) → List Piece → Option B
+firstOf is val [] = none
+firstOf is val (x ∷ xs) = cond (is x) (some (val x)) (firstOf is val xs)
+
+-- the four bytes of a pair's number
+abbrev pub given : List Piece → ℕ → ℕ → Number → Option Four
+given xs l v n = firstOf (ofKey l v n) four xs
+
+-- the total of a pair
+abbrev pub totalGiven : List Piece → ℕ → ℕ → Option Total
+totalGiven xs l v = firstOf (ofPair l v) (λ x. x .heading .total) xs
+
+-- ---- the answer due
+
+-- the same frame: heading and four bytes
+unfoldable pub same : Piece → Piece → Bool
+same x y =
+    ofKey (y .heading .level) (y .heading .version) (y .heading .number) x
+    && (eqb (x .heading .total .0) (y .heading .total .0) && sameBytes x y)
+
+unfoldable pub came : List Piece → Piece → Bool
+came [] y = false
+came (x ∷ xs) y = same x y || came xs y
+
+abbrev pub isSome : {A : Type 0} → Option A → Bool
+isSome none = false
+isSome (some a) = true
+
+-- every number below the total has its bytes
+unfoldable pub full : Total → (Number → Option Four) → Bool
+full t g = below (t .0) (λ n. isSome (g (record { 0 = n })))
+
+abbrev pub bytesOf : Option Four → List ℕ
+bytesOf none = []
+bytesOf (some w) = w .0 ∷ w .1 ∷ w .2 ∷ w .3 ∷ []
+
+-- the bytes joined, number by number
+unfoldable pub joinedTo : ℕ → (Number → Option Four) → List ℕ
+joinedTo zero g = []
+joinedTo (suc n) g = joinedTo n g ++ bytesOf (g (record { 0 = n }))
+
+abbrev pub joinedBy : Total → (Number → Option Four) → List ℕ
+joinedBy t g = joinedTo (t .0) g
+
+-- 17 or 1 where every number has its bytes, by the rule of a whole packet; else 0
+unfoldable pub declareCases : Total → (Number → Option Four) → List Case
+declareCases t g = (full t g && not (passes (joinedBy t g)), 17) ∷ (full t g && passes (joinedBy t g), 1) ∷ []
+
+-- what is given once the frame has come too
+abbrev pub givenWith : List Piece → Piece → Number → Option Four
+givenWith xs y n = given (xs ++ (y ∷ [])) (y .heading .level) (y .heading .version) n
+
+-- 2 for the same frame again; else the pair is declared where this was its last missing number
+unfoldable pub dueCases : List Piece → Piece → List Case
+dueCases xs y = (came xs y, 2) ∷ declareCases (y .heading .total) (givenWith xs y)
+
+-- the answer due to a frame, from the frames before it: its heading's refusal first
+unfoldable pub due : List (List ℕ) → List ℕ → ℕ
+due before f = first (refusals f ++ dueCases (pieces before) (pieceOf f))
+
+-- every number of a pair has come: as many as its total says
+abbrev pub completeBy : Option Total → (Number → Option Four) → Bool
+completeBy none g = false
+completeBy (some t) g = full t g
+
+abbrev pub completed : List Piece → ℕ → ℕ → Bool
+completed xs l v = completeBy (totalGiven xs l v) (given xs l v)

@@ -1,0 +1,154 @@
+-- What an answer of 0 says of the fields, and that the bits put are the packet's bytes. Assumes nothing.
+use mathlib.Core.Path.{_≡_, refl, sym, ap, ap₂, _∙_, subst}
+use mathlib.Core.Bool.{Bool, true, false, not, _&&_, _||_, false≢true}
+use mathlib.Core.List.{List, [], _∷_, _++_, append-assoc}
+use Prim.Native.Nat.{ℕ, zero, suc, _+_, _*_, _/_, _<_, _≤_}
+use native.Mathlib.Nat.{zero-mul}
+use native.Mathlib.Omega.{arith}
+use lib.Dec.{ltb, eqb}
+use lib.ListN.{length, drop}
+use lib.Seq.{sets, drop-nil, drop-append-add, getD-drop}
+use borrow.Author.Tests.{ltb-false, eqb-true, not-false}
+use Rattle.laws.specs.Bits.{bits, bytes, spread, bitsOf}
+use Rattle.laws.proofs.Bits.{Under, length-bitsOf, length-spread, length-run, under-run, under-append, bytes-bits, bits-bytes}
+use Rattle.laws.proofs.Refusals.{not-due}
+use Rattle.laws.proofs.Writes.{from-front}
+use Rattle.format.specs.Format.{encode, need, fine}
+use Rattle.format.proofs.Round.{under-encode}
+use Rattle.packet.specs.declared.Sort.the-variants as sort
+use Rattle.packet.specs.declared.Content.{Content}
+use Rattle.packet.specs.declared.Content.the-variants as content
+use Rattle.packet.specs.declared.Fields.{Fields}
+use Rattle.packet.specs.Content.{countFor, noSuchDay}
+use Rattle.packet.specs.Writing.{rowFor, sizeFor, tableFor, valuesFor, bytesFor, writtenBy, outputBy, lentBad, otherType, bodyLost, digitsLost, countBad, digitBad, notTaken, writtenAnswer, written, outputOf}
+use Rattle.writer.specs.Parts.{Lent, Writable}
+use Rattle.writer.specs.Ranges.{bytesOf}
+use Rattle.writer.proofs.Taken.{good-counts, counted-lent}
+use Rattle.writer.proofs.Size.{size-is, content-bits}
+use Rattle.writer.proofs.Together.{code-size, packet-long}
+
+-- ---- lists of bits
+spread-append : (w : ℕ) (xs ys : List ℕ) → spread w (xs ++ ys) ≡ spread w xs ++ spread w ys
+unfolding spread
+spread-append w [] ys = refl
+spread-append w (x ∷ xs) ys = ap (λ (l : List ℕ). bitsOf w x ++ l) (spread-append w xs ys) ∙ sym (append-assoc (bitsOf w x) (spread w xs) (spread w ys))
+
+drop-bits : (n : ℕ) (xs : List ℕ) → drop (8 * n) (bits xs) ≡ bits (drop n xs)
+unfolding spread
+drop-bits zero xs = refl
+drop-bits (suc n) [] = drop-nil (8 * suc n)
+drop-bits (suc n) (x ∷ xs) =
+    let e : 8 * suc n ≡ length (bitsOf 8 x) + 8 * n = omega (arith, length-bitsOf 8 x) in
+    ap (λ (k : ℕ). drop k (bitsOf 8 x ++ bits xs)) e ∙ drop-append-add (bitsOf 8 x) (bits xs) (8 * n) ∙ drop-bits n xs
+
+under-drop : (k n : ℕ) (xs : List ℕ) → Under k xs → Under k (drop n xs)
+under-drop k n xs u i = subst (λ (x : ℕ). x < k) (sym (getD-drop n xs i 0)) (u (n + i))
+
+-- ---- an answer of 0
+pub record Passed (f : Fields) (codes body : List ℕ) (room : ℕ) : Type 0 where
+  pub counts : countBad f codes body ≡ false
+  pub taken : notTaken f codes body ≡ false
+  pub small : sizeFor f body ≤ 250
+  pub room-enough : sizeFor f body ≤ room
+
+pub passed : (f : Fields) (codes body : List ℕ) (room : ℕ) → writtenAnswer f codes body room ≡ 0 → Passed f codes body room
+unfolding writtenAnswer
+passed f codes body room e =
+    let a = not-due _ 22 _ e in
+    let b = not-due (countBad f codes body) 25 _ (a .1) in
+    let c = not-due (digitBad f codes body) 24 _ (b .1) in
+    let d = not-due (notTaken f codes body) 26 _ (c .1) in
+    let s = not-due (ltb 250 (sizeFor f body)) 19 _ (d .1) in
+    let r = not-due (ltb room (sizeFor f body)) 9 _ (s .1) in
+    record { counts = b .0; taken = d .0; small = ltb-false 250 (sizeFor f body) (s .0); room-enough = ltb-false room (sizeFor f body) (r .0) }
+
+-- all of the body is the content's
+body-of : (f : Fields) (codes body : List ℕ) → notTaken f codes body ≡ false → bodyLost (rowFor (f .content) .sort) body ≡ false
+unfolding notTaken
+body-of f codes body e =
+    second (otherType f) (bodyLost (rowFor (f .content) .sort) body) (digitsLost (f .content) (f .digits) || ((eqb (f .kind) 1 && not (eqb (f .codes) 0)) || (not (fine 27 (tableFor f body) (valuesFor f codes body)) || noSuchDay (f .content)))) e
+  where
+    second : (a b c : Bool) → (a || (b || c)) ≡ false → b ≡ false
+    second true b c h = absurd (false≢true (sym h))
+    second false true c h = absurd (false≢true (sym h))
+    second false false c h = refl
+
+none : (c : Content) (body : List ℕ) → countFor c body ≡ 0 → not (eqb (length body) 0) ≡ false → Lent c body
+none c body k l =
+    let e : length body ≡ 0 = eqb-true (length body) 0 (not-false (eqb (length body) 0) l) in
+    record { few = omega arith; numbers = e ∙ sym (ap (λ (n : ℕ). n * need (rowFor c .each)) k ∙ zero-mul (need (rowFor c .each))) }
+
+-- a raw body is no longer than its packet
+raw-short : (c : Content) (body : List ℕ) (n : ℕ) → 77 + 12 * n + bytesOf c (length body) ≤ 250 → rowFor c .sort ≡ sort.Raw → length body ≤ 255
+raw-short content.Raw body n h q = omega arith
+raw-short (content.Frequencies k) body n h q = let z : _≡_ {A = ℕ} 0 1 = cc in omega arith
+raw-short (content.Address m) body n h q = let z : _≡_ {A = ℕ} 0 1 = cc in omega arith
+raw-short (content.Keep on period) body n h q = let z : _≡_ {A = ℕ} 0 1 = cc in omega arith
+raw-short (content.Clock year month day hour minute second) body n h q = let z : _≡_ {A = ℕ} 0 1 = cc in omega arith
+raw-short (content.Reset change) body n h q = let z : _≡_ {A = ℕ} 0 1 = cc in omega arith
+raw-short content.Factory body n h q = let z : _≡_ {A = ℕ} 0 1 = cc in omega arith
+raw-short (content.Drill action) body n h q = let z : _≡_ {A = ℕ} 0 1 = cc in omega arith
+raw-short (content.Text kind set t) body n h q = let z : _≡_ {A = ℕ} 0 1 = cc in omega arith
+raw-short (content.Command k) body n h q = let z : _≡_ {A = ℕ} 0 1 = cc in omega arith
+raw-short (content.Hold serial) body n h q = let z : _≡_ {A = ℕ} 0 1 = cc in omega arith
+
+lent-of : (c : Content) (body : List ℕ) → bodyLost (rowFor c .sort) body ≡ false → lentBad (rowFor c .sort) (countFor c body) (need (rowFor c .each)) body ≡ false → (rowFor c .sort ≡ sort.Raw → length body ≤ 255) → Lent c body
+unfolding need
+lent-of content.Raw body l b r = record { few = r refl; numbers = omega arith }
+lent-of (content.Frequencies k) body l b r = counted-lent (content.Frequencies k) body refl b
+lent-of (content.Address m) body l b r = counted-lent (content.Address m) body refl b
+lent-of (content.Keep on period) body l b r = none (content.Keep on period) body refl l
+lent-of (content.Clock year month day hour minute second) body l b r = none (content.Clock year month day hour minute second) body refl l
+lent-of (content.Reset change) body l b r = none (content.Reset change) body refl l
+lent-of content.Factory body l b r = none content.Factory body refl l
+lent-of (content.Drill action) body l b r = none (content.Drill action) body refl l
+lent-of (content.Text kind set t) body l b r = counted-lent (content.Text kind set t) body refl b
+lent-of (content.Command k) body l b r = counted-lent (content.Command k) body refl b
+lent-of (content.Hold serial) body l b r = none (content.Hold serial) body refl l
+
+pub writable : (f : Fields) (codes body : List ℕ) (room : ℕ) → Passed f codes body room → Writable f codes body
+writable f codes body room p =
+    let g = good-counts f codes body (p .counts) in
+    let s = p .small in
+    record { counts = g .counts; lent = lent-of (f .content) body (body-of f codes body (p .taken)) (g .bad) (raw-short (f .content) body (f .codes) (omega (arith, size-is f body))); small = s }
+
+-- ---- bits and bytes
+-- bits put from the first on are the bytes of those bits, and the rest as it was
+pub bytes-put : (last out e : List ℕ) (p : ℕ) → Under 256 last → Under 256 out → Under 2 e → length e ≡ 8 * p → p ≤ length out → bits last ≡ sets (bits out) 0 e → last ≡ bytes e ++ drop (length (bytes e)) out
+bytes-put last out e p ul uo ue l h w =
+    let lo = length-spread 8 out in
+    let m : length (bytes e) ≡ p = length-run e 0 (length e / 8) 8 ∙ omega arith in
+    let front : sets (bits out) 0 e ≡ e ++ drop (length e) (bits out) = from-front e (bits out) (omega arith) in
+    let target : bits (bytes e ++ drop p out) ≡ e ++ drop (length e) (bits out) =
+    spread-append 8 (bytes e) (drop p out) ∙ ap₂ (λ (x y : List ℕ). x ++ y) (bits-bytes e ue (omega arith)) (sym (drop-bits p out) ∙ ap (λ (n : ℕ). drop n (bits out)) (sym l)) in
+    sym (bytes-bits last ul)
+    ∙ ap bytes (w ∙ front ∙ sym target)
+    ∙ bytes-bits (bytes e ++ drop p out) (under-append 256 (bytes e) (drop p out) (under-run e 0 (length e / 8) 8 ue) (under-drop 256 p out uo))
+    ∙ ap (λ (n : ℕ). bytes e ++ drop n out) (sym m)
+
+-- ---- the ways out of `write`
+not-written : (a p : ℕ) → (a ≡ 0 → ⊥) → record { answer = a; length = 0 } ≡ writtenBy a p
+not-written zero p n = absurd (n refl)
+not-written (suc a) p n = refl
+
+not-out : (a : ℕ) (xs out : List ℕ) → (a ≡ 0 → ⊥) → out ≡ outputBy a xs out
+not-out zero xs out n = absurd (n refl)
+not-out (suc a) xs out n = refl
+
+module _ (f : Fields) (codes body out : List ℕ) where
+  pub refused : (a : ℕ) → a ≡ writtenAnswer f codes body (length out) → (a ≡ 0 → ⊥) → (record { answer = a; length = 0 } ≡ written f codes body (length out)) × (out ≡ outputOf f codes body out)
+  unfolding written outputOf
+  refused a e n = rw (← e) (not-written a (sizeFor f body) n, not-out a (bytesFor f codes body) out n)
+
+  pub done : (d : length (f .digits) ≡ 35) (lc : length (f .certificate) ≡ 12) (ls : length (f .signature) ≡ 64) (last : List ℕ) (p : ℕ) → writtenAnswer f codes body (length out) ≡ 0 → Under 256 last → Under 256 out → p ≡ sizeFor f body
+      → bits last ≡ sets (bits out) 0 (encode (tableFor f body) (valuesFor f codes body)) → (record { answer = 0; length = p } ≡ written f codes body (length out)) × (last ≡ outputOf f codes body out)
+  unfolding written outputOf bytesFor
+  done d lc ls last p e ul uo ep w =
+      let g = passed f codes body (length out) e in
+      let h = writable f codes body (length out) g in
+      let r = g .room-enough in
+      let z = size-is f body in
+      let l = packet-long f codes body (h .counts) d lc ls in
+      let k = content-bits (f .content) body in
+      let m = ap (λ (n : ℕ). f .codes * n) code-size in
+      rw (e, ep) (refl, bytes-put last out (encode (tableFor f body) (valuesFor f codes body)) (sizeFor f body) ul uo (under-encode (tableFor f body) (valuesFor f codes body)) (omega arith) r w)
