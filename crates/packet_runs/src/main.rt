@@ -4,6 +4,9 @@
 ghost use Prim.Native.Nat.{_≤_};
 use libc::STDIN_FILENO;
 use libc::STDOUT_FILENO;
+use packet::Content;
+use packet::Fields;
+use packet::Opened;
 
 fn say(b: &[u8]) {
     io::write_all(STDOUT_FILENO, b);
@@ -51,6 +54,52 @@ fn text(gives: &[u8], should_be: &[u8]) {
     }
 }
 
+// The numbers of the entries of a content, at most as many as a reader gives.
+fn entries_length(c: Content) -> usize
+    ensures { λ r. ⌜ r ≤ 272 ⌝ }
+{
+    match c {
+        Content::Frequencies { count } => { if count < 35 { 8 * count } else { 272 } }
+        _ => 0,
+    }
+}
+
+// The digits of n codes, at most as many as a reader gives.
+fn codes_length(n: usize) -> usize
+    ensures { λ r. ⌜ r ≤ 322 ⌝ }
+{
+    if n < 15 { 23 * n } else { 322 }
+}
+
+// Fields, codes and body written, and whether they are the packet's bytes; only type 1 with codes is answered 27.
+fn written(f: Fields, codes: &[u8], body: &[u8], packet: &[u8]) {
+    let mut out = [0u8; 250];
+    let refused = f.kind == 1 && f.codes > 0;
+    let w = writer::write(f, codes, body, &mut out);
+    if refused {
+        number(b"  back ", w.answer, 27);
+        say(b"\n");
+    } else {
+        number(b"  back ", w.answer, 0);
+        text(part(&out, 0, w.length), packet);
+    }
+}
+
+// A packet that was read, written back.
+fn back(o: Opened, packet: &[u8]) {
+    let f = o.fields;
+    let digits = o.codes;
+    let entries = o.entries;
+    let content = f.content;
+    let n = codes_length(f.codes);
+    let k = entries_length(content);
+    if k == 0 {
+        written(f, part(&digits, 0, n), reader::body(packet), packet);
+    } else {
+        written(f, part(&digits, 0, n), part(&entries, 0, k), packet);
+    }
+}
+
 // The length of a case whose name, text and packet have these lengths.
 fn span(name: u8, text: u8, high: u8, low: u8) -> usize
     ensures { λ r. ⌜ (1 ≤ r) × (r ≤ 70000) ⌝ }
@@ -73,6 +122,10 @@ fn case(b: &[u8]) -> usize
     number(b": read ", reader::read(packet).answer, byte(b, n + 1));
     number(b"; text ", reader::text_answer(packet), byte(b, n + 2));
     text(reader::text(packet), part(b, n + 4, t));
+    let o = reader::read(packet);
+    if o.answer == 0 {
+        back(o, packet);
+    }
     span(name, words, high, low)
 }
 

@@ -1,3 +1,4 @@
+-- `reader::fields` meets its contract. Assumes nothing.
 use Rattle.packet.specs.Reading.{fieldsOf}
 use borrow.Author.Needs.{needs}
 use Rattle.reader.proofs.fields.Statement.{statement}

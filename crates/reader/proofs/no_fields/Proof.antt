@@ -1,3 +1,4 @@
+-- `reader::no_fields` meets its contract. Assumes nothing.
 use Rattle.packet.specs.Reading.{noFields}
 use borrow.Author.Needs.{needs}
 use Rattle.reader.proofs.no_fields.Statement.{statement}

@@ -1,3 +1,4 @@
+-- `reader::refused` meets its contract. Assumes nothing.
 use borrow.Author.Needs.{needs}
 use Rattle.reader.proofs.refused.Statement.{statement}
 use Rattle.reader.proofs.refused.Tie as tie

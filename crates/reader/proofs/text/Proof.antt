@@ -1,3 +1,4 @@
+-- `reader::text` meets its contract. Assumes nothing.
 use mathlib.Core.Path.{_≡_, sym, _∙_}
 use denote.Ref.{now}
 use Rattle.reader.proofs.Whole as whole

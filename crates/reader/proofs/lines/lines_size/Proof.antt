@@ -1,3 +1,4 @@
+-- `reader::lines::lines_size` meets its contract. Assumes nothing.
 use mathlib.Core.Path.{_≡_}
 use mathlib.Core.Bool.{true}
 use Prim.Native.Nat.{_≤_, _-_, _+_, _*_}

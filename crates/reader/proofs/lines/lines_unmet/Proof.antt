@@ -1,3 +1,4 @@
+-- `reader::lines::lines_unmet` meets its contract. Assumes nothing.
 use mathlib.Core.Path.{_≡_, refl}
 use Prim.Native.Nat.{_≤_, _-_}
 use lib.ListN.{length, drop, getD, take}

@@ -1,3 +1,4 @@
+-- `reader::lines::rows_fine` meets its contract. Assumes nothing.
 use mathlib.Core.Path.{_≡_, sym, _∙_}
 use Prim.Native.Nat.{_≤_, _-_, _+_, _*_}
 use lib.ListN.{take}

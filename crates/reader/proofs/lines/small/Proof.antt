@@ -1,3 +1,4 @@
+-- `reader::lines::small` meets its contract. Assumes nothing.
 use mathlib.Core.Path.{_≡_, _∙_}
 use denote.Ref.{now}
 use native.Mathlib.Omega.{arith}

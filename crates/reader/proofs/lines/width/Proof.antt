@@ -1,3 +1,4 @@
+-- `reader::lines::width` meets its contract. Assumes nothing.
 use mathlib.Core.Path.{refl}
 use native.Mathlib.Omega.{arith}
 use Rattle.reader.proofs.Loops as laws

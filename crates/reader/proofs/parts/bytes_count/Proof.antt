@@ -1,3 +1,4 @@
+-- `reader::parts::bytes_count` meets its contract. Assumes nothing.
 use mathlib.Core.Path.{_≡_, sym, ap, _∙_}
 use denote.Ref.{now}
 use Rattle.laws.proofs.Cases.{if-yes, if-no}

@@ -1,3 +1,4 @@
+-- `reader::parts::clock` meets its contract. Assumes nothing.
 use denote.Ref.{now}
 use Rattle.reader.proofs.Rows as rows
 use borrow.Author.Needs.{needs}

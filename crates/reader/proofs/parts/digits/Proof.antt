@@ -1,3 +1,4 @@
+-- `reader::parts::digits` meets its contract. Assumes nothing.
 use denote.Ref.{now}
 use native.Mathlib.Omega.{arith}
 use Rattle.packet.specs.declared.Form.the-variants as form

@@ -1,3 +1,4 @@
+-- `reader::parts::digits_of` meets its contract. Assumes nothing.
 use mathlib.Core.Path.{sym}
 use Prim.Native.Nat.{_+_, _*_}
 use denote.Ref.{now}

@@ -1,3 +1,4 @@
+-- `reader::parts::each_of` meets its contract. Assumes nothing.
 use mathlib.Core.Path.{ap, _∙_}
 use native.Mathlib.Omega.{arith}
 use Rattle.format.specs.Format.{size}

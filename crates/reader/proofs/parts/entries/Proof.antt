@@ -1,3 +1,4 @@
+-- `reader::parts::entries` meets its contract. Assumes nothing.
 use mathlib.Core.Path.{_≡_, sym, ap, _∙_}
 use mathlib.Core.List.{[]}
 use denote.Ref.{now}

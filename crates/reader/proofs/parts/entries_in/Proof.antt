@@ -1,3 +1,4 @@
+-- `reader::parts::entries_in` meets its contract. Assumes nothing.
 use mathlib.Core.Path.{_≡_, refl, sym, _∙_}
 use Prim.Native.Nat.{_+_, _*_, _-_, _≤_}
 use denote.Ref.{now}

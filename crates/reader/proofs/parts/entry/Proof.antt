@@ -1,3 +1,4 @@
+-- `reader::parts::entry` meets its contract. Assumes nothing.
 use mathlib.Core.Path.{sym, ap, _∙_}
 use Prim.Native.Nat.{_+_}
 use denote.Ref.{now}

@@ -1,3 +1,4 @@
+-- `reader::parts::form` meets its contract. Assumes nothing.
 use mathlib.Core.Path.{ap, _∙_}
 use Rattle.packet.specs.Table.{formOf}
 use borrow.Author.Needs.{needs}

@@ -1,3 +1,4 @@
+-- `reader::parts::keep` meets its contract. Assumes nothing.
 use Rattle.laws.specs.Bits.{run}
 use Rattle.format.specs.Format.{decode, flat}
 use borrow.Author.Needs.{needs}

