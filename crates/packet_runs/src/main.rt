@@ -71,7 +71,8 @@ fn codes_length(n: usize) -> usize
     if n < 15 { 23 * n } else { 322 }
 }
 
-// Fields, codes and body written, and whether they are the packet's bytes; only type 1 with codes is answered 27.
+// Fields, codes and body written, and whether they are the packet's bytes; only type 1 with codes is answered 27. No packet has
+// room in 76 bytes.
 fn written(f: Fields, codes: &[u8], body: &[u8], packet: &[u8]) {
     let mut out = [0u8; 250];
     let refused = f.kind == 1 && f.codes > 0;
@@ -80,7 +81,13 @@ fn written(f: Fields, codes: &[u8], body: &[u8], packet: &[u8]) {
         number(b"  back ", w.answer, 27);
         say(b"\n");
     } else {
+        let mut short = [0u8; 76];
         number(b"  back ", w.answer, 0);
+        number(
+            b"; into 76 bytes ",
+            writer::write(f, codes, body, &mut short).answer,
+            10,
+        );
         text(part(&out, 0, w.length), packet);
     }
 }
