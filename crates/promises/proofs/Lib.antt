@@ -6,3 +6,4 @@ pub mod Air
 pub mod Joined
 pub mod Pieces
 pub mod Frames
+pub mod Chain

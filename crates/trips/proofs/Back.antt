@@ -585,7 +585,7 @@ lentCodes o = take (o .fields .codes * 23) (o .codes)
 abbrev pub lentBody : Opened → List ℕ → List ℕ
 lentBody o part = cond (hasEntries (formFor (o .fields .content))) (take (countFor (o .fields .content) [] * 8) (o .entries)) part
 
-answer-of : (b : List ℕ) → opened b .answer ≡ 0 → readAnswer b ≡ 0
+pub answer-of : (b : List ℕ) → opened b .answer ≡ 0 → readAnswer b ≡ 0
 unfolding opened
 answer-of b e = go (readAnswer b) e
   where

@@ -600,15 +600,30 @@ bits-held f codes body a y =
     whole : Taken f codes body → bodyFor (f .content) body ≡ body
     whole a = whole-body (f .content) body (lent-long (f .content) body (a .lent) (a .body-kept))
 
+-- fields and a body of their types that are taken fit the table
+fitted : (f : Fields) (codes body : List ℕ) → Typed f body → Taken f codes body → Fitted f codes body
+fitted f codes body t a =
+    record { digits-long = t .digits-long; certificate-long = t .certificate-long; signature-long = t .signature-long; bits-hold = bits-held f codes body a t }
+
+-- what a writer writes is the packet's bytes, as many as its size
+pub packet-is : (f : Fields) (codes body out : List ℕ) → Typed f body → writtenAnswer f codes body (length out) ≡ 0
+    → (take (sizeFor f body) (outputOf f codes body out) ≡ bytesFor f codes body) × (Under 256 (bytesFor f codes body)) × (length (bytesFor f codes body) ≡ sizeFor f body)
+unfolding outputOf
+packet-is f codes body out t e =
+    let a = taken f codes body (length out) e in
+    let y = fitted f codes body t a in
+    let b = bytesFor f codes body in
+    let l = long f codes body a y in
+    let w : take (sizeFor f body) (outputOf f codes body out) ≡ b = rw e (take-at b (drop (length b) out) (sizeFor f body) l) in
+    (w, bytes-under f codes body a y, l)
+
 -- ---- the theorem
 -- what a writer wrote is the first bytes of its output, and from it a reader gives the same fields, codes, entries and body
 pub fields-come-back : (f : Fields) (codes body out : List ℕ) → Typed f body → writtenAnswer f codes body (length out) ≡ 0
     → (opened (take (sizeFor f body) (outputOf f codes body out)) ≡ asGiven f codes body)
     × (bodyOf (take (sizeFor f body) (outputOf f codes body out)) ≡ cond (hasEntries (formFor (f .content))) [] body)
-unfolding outputOf
 fields-come-back f codes body out t e =
     let a = taken f codes body (length out) e in
-    let y : Fitted f codes body = record { digits-long = t .digits-long; certificate-long = t .certificate-long; signature-long = t .signature-long; bits-hold = bits-held f codes body a t } in
-    let b = bytesFor f codes body in
-    let w : take (sizeFor f body) (outputOf f codes body out) ≡ b = rw e (take-at b (drop (length b) out) (sizeFor f body) (long f codes body a y)) in
+    let y = fitted f codes body t a in
+    let w = packet-is f codes body out t e .0 in
     (ap opened w ∙ opened-is f codes body a y, ap bodyOf w ∙ body-is f codes body a y)
