@@ -1,5 +1,13 @@
 -- A contract of our form leaves one answer and one content of lent memory. Assumes nothing.
-use mathlib.Core.Path.{_≡_, sym, _∙_}
+use mathlib.Core.Path.{_≡_, sym, ap, ap₂, subst, _∙_}
+use mathlib.Core.List.{List, _++_}
+use Prim.Native.Nat.{ℕ, _-_, _≤_}
+use lib.ListN.{length, take, drop, replicate, take-append-drop}
+use lib.Seq.{length-take-le}
+use Rattle.format.specs.declared.Line.{Line}
+use Rattle.format.specs.Format.{octets}
+use Rattle.packet.specs.declared.Lines.{Lines}
+use Rattle.packet.specs.Shape.{Listed}
 
 -- Whatever a contract says the answer equals, any two answers that it allows are equal.
 pub one-answer : {Answer : Type 0} (said : Answer) (a b : Answer) → a ≡ said → b ≡ said → a ≡ b
@@ -9,3 +17,16 @@ one-answer said a b p q = p ∙ sym q
 pub one-outcome : {Answer Content : Type 0} (said : Answer) (left : Content) (a b : Answer) (m n : Content)
     → (a ≡ said) × (m ≡ left) → (b ≡ said) × (n ≡ left) → (a ≡ b) × (m ≡ n)
 one-outcome said left a b m n p q = (one-answer said a b (p .0) (q .0), one-answer left m n (p .1) (q .1))
+
+-- lines that are listed are as many as the list has, and the six are they and lines of no number
+listed : (r : Lines) (ts : List Line) → length (r .all) ≡ 6 → Listed r ts → (r .m ≡ length ts) × (r .all ≡ ts ++ replicate (6 - length ts) (octets 0))
+listed r ts six h =
+    let m : r .m ≡ length ts = sym (length-take-le (r .m) (r .all) (subst (λ (n : ℕ). r .m ≤ n) (sym six) (h .few))) ∙ ap length (h .lines) in
+    (m, sym (take-append-drop (r .m) (r .all)) ∙ ap₂ _++_ (h .lines) (h .rest ∙ ap (λ (n : ℕ). replicate (6 - n) (octets 0)) m))
+
+-- Any two answers of a function that lists lines are equal: an array of six lines, listed as the same lines, is one.
+pub one-listing : (r s : Lines) (ts : List Line) → length (r .all) ≡ 6 → length (s .all) ≡ 6 → Listed r ts → Listed s ts → r ≡ s
+one-listing r s ts a b h k =
+    let x = listed r ts a h in
+    let y = listed s ts b k in
+    ap₂ (λ (m : ℕ) (all : List Line). record { m = m; all = all }) (one-answer (length ts) (r .m) (s .m) (x .0) (y .0)) (one-answer (ts ++ replicate (6 - length ts) (octets 0)) (r .all) (s .all) (x .1) (y .1))
