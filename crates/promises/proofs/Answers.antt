@@ -23,7 +23,7 @@ use Rattle.order.proofs.Theorems.{refusal-keeps}
 use Rattle.promises.specs.Exactly.{Exactly}
 use Rattle.promises.proofs.Sent.{numbers-apart}
 
-exactly : (cs : List Case) → apart cs ≡ true → Exactly (first cs) cs
+pub exactly : (cs : List Case) → apart cs ≡ true → Exactly (first cs) cs
 exactly cs a = record { each = exact cs a; done = done cs a; listed = listed cs }
 
 receive-apart : (r : Receiver) (d out : List ℕ) → apart (receiveCases r d out) ≡ true

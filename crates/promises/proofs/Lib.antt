@@ -6,4 +6,5 @@ pub mod Air
 pub mod Joined
 pub mod Pieces
 pub mod Frames
+pub mod Packets
 pub mod Chain

@@ -12,11 +12,11 @@ use Rattle.packet.specs.declared.Fields.{Fields}
 use Rattle.packet.specs.Reading.{casesThen, readCases, readAnswer, textCases, textAnswer}
 use Rattle.packet.specs.Writing.{writeCases, writtenAnswer}
 
-then-apart : (b : List ℕ) (x : Bool) → apart (casesThen b x) ≡ true
+pub then-apart : (b : List ℕ) (x : Bool) → apart (casesThen b x) ≡ true
 unfolding apart among
 then-apart b x = refl
 
-write-apart : (f : Fields) (codes body : List ℕ) (room : ℕ) → apart (writeCases f codes body room) ≡ true
+pub write-apart : (f : Fields) (codes body : List ℕ) (room : ℕ) → apart (writeCases f codes body room) ≡ true
 unfolding apart among
 write-apart f codes body room = refl
 
