@@ -22,6 +22,11 @@ pub length-air : (f : List ℕ) → length (airBytes f) ≡ 13
 unfolding airBytes
 length-air f = length-run (frameBits f) 0 (length (frameBits f) / 8) 8 ∙ ap (λ (n : ℕ). n / 8) (long f)
 
+-- The frames of a packet of p bytes have room for it and its two check bytes, and no fewer frames have.
+pub frames-least : (p : ℕ) → (p + 2 ≤ 4 * framesFor p) × ((n : ℕ) → p + 2 ≤ 4 * n → framesFor p ≤ n)
+unfolding framesFor
+frames-least p = (omega arith, λ n h. omega arith)
+
 -- at most 63 frames
 pub few : (p : ℕ) → p ≤ 250 → framesFor p ≤ 63
 unfolding framesFor
