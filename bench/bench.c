@@ -153,6 +153,7 @@ static void agree_all(const char *where, size_t size)
     for (int k = 0; k < 5; k++) {
         agree(where, plain_receive, size, pieces[k]);
         agree(where, table_receive, size, pieces[k]);
+        agree(where, same_receive, size, pieces[k]);
     }
 }
 
@@ -161,7 +162,7 @@ static void checks_agree(void)
     for (size_t n = 0; n <= 600; n++)
         for (size_t from = 0; from < 4000; from += 997) {
             uint16_t mine = radio_packet_check(air + from, n);
-            if (mine != plain_packet_check(air + from, n) || mine != table_packet_check(air + from, n))
+            if (mine != plain_packet_check(air + from, n) || mine != table_packet_check(air + from, n) || mine != same_packet_check(air + from, n))
                 differ("packet check", n);
         }
 }
@@ -197,47 +198,50 @@ static double median(double *times)
     return times[ROUNDS / 2];
 }
 
-/* What is timed, one of three at a time; `way` 0 is ours. */
+/* What is timed, one of four at a time; `way` 0 is ours. */
+enum { WAYS = 4 };
 typedef size_t work_fn(int way, size_t a, size_t b);
 
+static receive_fn *const receives[WAYS] = {0, plain_receive, table_receive, same_receive};
 static size_t receiving(int way, size_t size, size_t piece)
 {
-    return way == 0 ? ours(size, piece) : in_c(way == 1 ? plain_receive : table_receive, size, piece);
+    return way == 0 ? ours(size, piece) : in_c(receives[way], size, piece);
 }
+
+typedef uint16_t check_fn(const uint8_t *, size_t);
+static check_fn *const packet_checks[WAYS] = {radio_packet_check, plain_packet_check, table_packet_check, same_packet_check};
 
 static size_t checking(int way, size_t length, size_t times)
 {
     size_t sum = 0;
-    for (size_t i = 0; i < times; i++) {
-        const uint8_t *bytes = air + i % 64;
-        sum += way == 0 ? radio_packet_check(bytes, length) : way == 1 ? plain_packet_check(bytes, length) : table_packet_check(bytes, length);
-    }
+    for (size_t i = 0; i < times; i++)
+        sum += packet_checks[way](air + i % 64, length);
     return sum;
 }
 
-/* The three in turn, ROUNDS times, after one turn that is not counted; the medians, and ours over each of the others. */
+/* All in turn, ROUNDS times, after one turn that is not counted; the medians, and ours over each of the others. */
 static void measure(const char *what, work_fn *work, size_t a, size_t b, double units)
 {
-    double times[3][ROUNDS];
+    double times[WAYS][ROUNDS];
     for (int round = -1; round < ROUNDS; round++)
-        for (int turn = 0; turn < 3; turn++) {
-            int way = (turn + round + 3) % 3;
+        for (int turn = 0; turn < WAYS; turn++) {
+            int way = (turn + round + WAYS) % WAYS;
             double start = now();
             volatile size_t sink = work(way, a, b);
             (void)sink;
             if (round >= 0)
                 times[way][round] = now() - start;
         }
-    double m[3];
-    for (int way = 0; way < 3; way++)
+    double m[WAYS];
+    for (int way = 0; way < WAYS; way++)
         m[way] = median(times[way]);
-    printf("| %-30s | %8.2f | %8.2f | %8.2f | %6.2f | %6.2f | %8.2f |\n", what, m[0], m[1], m[2], m[0] / m[1], m[0] / m[2], m[0] * 1e6 / units);
+    printf("| %-25s | %8.2f | %8.2f | %8.2f | %8.2f | %6.2f | %6.2f | %6.2f | %6.2f |\n", what, m[0], m[1], m[2], m[3], m[0] / m[1], m[0] / m[2], m[0] / m[3], m[0] * 1e6 / units);
 }
 
 static void head(const char *unit)
 {
-    printf("\n| %-30s | ours, ms | plain C  | table C  | /plain | /table | ours, ns a %s |\n", "", unit);
-    printf("|--------------------------------|----------|----------|----------|--------|--------|----------|\n");
+    printf("\n| %-25s | ours, ms | plain C  | table C  | same C   | /plain | /table | /same  | ns a %s |\n", "", unit);
+    printf("|---------------------------|----------|----------|----------|----------|--------|--------|--------|--------|\n");
 }
 
 typedef void make_fn(size_t size);
@@ -265,7 +269,7 @@ int main(int argc, char **argv)
     refusals_agree();
     if (wrong)
         return 1;
-    printf("ours and both C programs agree\n");
+    printf("ours and the three C programs agree\n");
     if (argc > 1 && strcmp(argv[1], "--same") == 0)
         return 0;
     head("bit");
