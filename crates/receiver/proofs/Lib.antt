@@ -12,3 +12,4 @@ pub mod CleanAir
 pub mod Answers
 pub mod BitByBit
 pub mod FirstBlock
+pub mod Sums
