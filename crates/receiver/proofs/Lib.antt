@@ -13,3 +13,4 @@ pub mod Answers
 pub mod BitByBit
 pub mod FirstBlock
 pub mod Stood
+pub mod Sums
