@@ -109,7 +109,7 @@ pub fn text(packet: &[u8]) -> &[u8]
     if text_answer(packet) == 0 {
         let from = 23 + 12 * parts::codes_count(packet);
         let k = parts::text_length(packet);
-        parts::part(packet, from, k)
+        format::part(packet, from, k)
     } else {
         &packet[0..0]
     }
@@ -122,7 +122,7 @@ pub fn body(packet: &[u8]) -> &[u8]
     if tests::answer(packet) == 0 {
         let from = 3 + 12 * parts::codes_count(packet) + parts::lead(packet) / 8;
         let k = parts::bytes_count(packet);
-        parts::part(packet, from, k)
+        format::part(packet, from, k)
     } else {
         &packet[0..0]
     }

@@ -53,22 +53,6 @@ pub(crate) fn zeros272() -> [u8; 272]
     [0u8; 272]
 }
 
-// k bytes of the packet from a byte on; as many as there are.
-pub(crate) fn part(b: &[u8], from: usize, k: usize) -> &[u8]
-    ensures { λ r. ⌜ now r ≡ take k (drop from (now (b .entry))) ⌝ }
-{
-    let p = b.len();
-    if p <= from {
-        return &b[0..0];
-    }
-    if k < p - from {
-        let e = from + k;
-        &b[from..e]
-    } else {
-        &b[from..p]
-    }
-}
-
 // ---- heading
 pub(crate) fn kind(b: &[u8]) -> u8
     ensures { λ r. ⌜ r ≡ kindIn (now (b .entry)) ⌝ }
