@@ -10,14 +10,15 @@ from sources import ALIAS, IMPORT, KEYWORDS, Item, Name, Source, cited, crates, 
 
 # ---- imports
 
-def trimmed(line: str, used: Set[str]) -> Tuple[str, List[str]]:
-    """An import line with the names that are used, empty where none is; and the names that are not."""
+def trimmed(line: str, used: Set[str], had: Set[str]) -> Tuple[str, List[str]]:
+    """An import line with the names that are used and that no line above had, empty where there is none; and the other names."""
     end = ";" if line.endswith(";") else ""
     start = "ghost use" if line.startswith("ghost ") else "use"
     m = IMPORT.match(line)
     if m:
         entries = [n.strip() for n in m.group(2).split(",")]
-        gone = [n for n in entries if not cited(n.split(" as ")[-1], used)]
+        gone = [n for n in entries if not cited(n.split(" as ")[-1], used) or m.group(1) + "." + n in had]
+        had.update(m.group(1) + "." + n for n in entries)
         kept = [n for n in entries if n not in gone]
         if not gone:
             return line, []
@@ -32,9 +33,10 @@ def unused_imports(source: Source) -> Tuple[List[str], List[Tuple[int, str]]]:
     """The file's lines with no import that is not used, and those imports by line. Of code only the `ghost use` lines are looked at."""
     used = words(source.body_tokens())
     kept, gone = [], []
+    had: Set[str] = set()
     for number, line in enumerate(source.lines, 1):
         if line.startswith("ghost use ") or (line.startswith("use ") and source.path.endswith(".antt")):
-            new, names = trimmed(line, used)
+            new, names = trimmed(line, used, had)
             gone += [(number, n) for n in names]
             if names and not new:
                 continue
@@ -55,7 +57,7 @@ def imports(names: List[str], drop: bool) -> int:
         if drop and kept != source.lines:
             with open(source.path, "w", encoding="utf-8") as f:
                 f.write("\n".join(kept))
-    print("%d imported names are not used%s" % (count, ", and are dropped" if drop and count else ""))
+    print("%d imported names are not used, or imported twice%s" % (count, ", and are dropped" if drop and count else ""))
     return 0 if drop else min(count, 1)
 
 
@@ -202,7 +204,7 @@ def alike(names: List[str]) -> int:
             place = "%s:%d: %s" % (i.path, i.first, i.name)
             said, body = i.parts()
             said = one_binder(said)
-            if len(said) > 5 and said[-1] not in ("ℕ", "Bool") and "≡" in said:
+            if len(said) > 3 and said[-1] not in ("ℕ", "Bool") and "≡" in said:
                 statements.append((shape(s, i.name, needed(one_binder(tokens(i.params)), said) + said), place))
             if len(body) > 9:
                 bodies.append((shape(s, i.name, body), place))
