@@ -1,6 +1,5 @@
 // A table language for formats of bits: what a line of a table is, and the numbers of a table read, tested and written.
 ghost use mathlib.Core.Path.{_≡_};
-ghost use mathlib.Core.Bool.{_&&_, cond};
 ghost use Prim.Native.Nat.{_+_, _*_, _<_, _≤_, _-_, _^_};
 ghost use lib.ListN.{length, getD, set};
 ghost use lib.Seq.{sets};

@@ -4,11 +4,9 @@ mod parts;
 mod tests;
 
 ghost use mathlib.Core.Path.{_≡_};
-ghost use mathlib.Core.Bool.{_||_, not};
-ghost use lib.Dec.{eqb};
 ghost use lib.ListN.{length};
 ghost use Prim.Native.Nat.{_≤_};
-ghost use Rattle.packet.specs.Reading.{opened, openedBy, refusedAs, noFields, fieldsOf, readAnswer, textAnswer, textOf, bodyOf};
+ghost use Rattle.packet.specs.Reading.{opened, refusedAs, noFields, fieldsOf, textAnswer, textOf, bodyOf};
 use packet::Content;
 use packet::Fields;
 use packet::Opened;
