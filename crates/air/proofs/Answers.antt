@@ -15,7 +15,7 @@ use Rattle.laws.proofs.Writes.{from-front}
 use Rattle.frame.specs.Heading.{reserved}
 use Rattle.frame.specs.OnAir.{airBytes, streamOf}
 use Rattle.air.specs.OnAir.{framesFor, framesFrom, framesOf, sized, cases, answerOf, airedOf, outputOf}
-use Rattle.air.proofs.Stream.{length-air}
+use Rattle.frame.proofs.OnAir.{length-air}
 
 -- so many frames, so many bytes
 pub length-frames : (p : List ℕ) (l v k n : ℕ) → length (framesFrom p l v k n) ≡ n

@@ -3,7 +3,7 @@ use mathlib.Core.Path.{_≡_, sym, ap, _∙_}
 use mathlib.Core.List.{List, [], _∷_}
 use Prim.Native.Nat.{ℕ, _+_, _*_, _/_, _%_, _^_}
 use native.Mathlib.Omega.{arith}
-use Rattle.laws.specs.Bits.{at, bitsOf, bits, bytes}
+use Rattle.laws.specs.Bits.{at, bitsOf, bits}
 use Rattle.laws.proofs.Words.{bits-join, at-word}
 use Rattle.block.specs.Block.{offsetOf, checkWord}
 use Rattle.block.specs.declared.Letter.{Letter}

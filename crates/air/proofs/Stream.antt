@@ -1,26 +1,16 @@
 -- The loop over the frames: how it starts, goes on and ends. Assumes nothing.
 use mathlib.Core.Path.{_≡_, refl, sym, ap, ap₂, _∙_}
 use mathlib.Core.List.{List, _++_}
-use Prim.Native.Nat.{ℕ, suc, _+_, _-_, _*_, _/_, _<_, _≤_}
+use Prim.Native.Nat.{ℕ, suc, _+_, _-_, _*_, _<_, _≤_}
 use native.Mathlib.Omega.{arith}
 use lib.ListN.{length, take, drop}
 use lib.Seq.{sets, length-sets}
-use Rattle.laws.specs.Bits.{bitsOf}
-use Rattle.laws.proofs.Bits.{length-run}
 use borrow.Rule.Slice.PartMut.{putMid}
 use Rattle.laws.proofs.Writes.{sets-append}
 use Rattle.laws.proofs.Parts.{in-part}
-use Rattle.frame.specs.OnAir.{blockBits, frameBits, airBytes, streamOf}
+use Rattle.frame.specs.OnAir.{airBytes, streamOf}
 use Rattle.air.specs.OnAir.{framesFor, frameOf, headingFor, framesFrom, framesOf}
-
--- a frame is 104 bits, 13 bytes
-long : (f : List ℕ) → length (frameBits f) ≡ 104
-unfolding frameBits blockBits bitsOf
-long f = refl
-
-pub length-air : (f : List ℕ) → length (airBytes f) ≡ 13
-unfolding airBytes
-length-air f = length-run (frameBits f) 0 (length (frameBits f) / 8) 8 ∙ ap (λ (n : ℕ). n / 8) (long f)
+use Rattle.frame.proofs.OnAir.{length-air}
 
 -- The frames of a packet of p bytes have room for it and its two check bytes, and no fewer frames have.
 pub frames-least : (p : ℕ) → (p + 2 ≤ 4 * framesFor p) × ((n : ℕ) → p + 2 ≤ 4 * n → framesFor p ≤ n)

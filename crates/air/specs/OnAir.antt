@@ -7,8 +7,6 @@ use lib.Dec.{eqb, leb, ltb}
 use Rattle.laws.specs.Bits.{at, bits}
 use Rattle.laws.specs.Refusals.{Case, first}
 use Rattle.crc.specs.Crc16.{crc16}
-use Rattle.frame.specs.declared.Total.{Total}
-use Rattle.frame.specs.declared.Number.{Number}
 use Rattle.frame.specs.declared.Heading.{Heading}
 use Rattle.frame.specs.Heading.{reserved, headingBytes}
 use Rattle.frame.specs.OnAir.{streamOf}

@@ -1,6 +1,6 @@
 // The on-air writer: a packet as frames, each frame as 13 bytes on air.
 ghost use mathlib.Core.Path.{_≡_};
-ghost use Prim.Native.Nat.{ℕ, _+_, _*_, _<_, _≤_, _^_};
+ghost use Prim.Native.Nat.{_+_, _*_, _<_, _≤_, _^_};
 ghost use lib.ListN.{length};
 ghost use lib.Seq.{sets};
 ghost use Rattle.block.specs.Block.{offsetOf, checkWord};

@@ -1,6 +1,6 @@
 // Blocks of 26 bits: sixteen of information, then ten of check.
 ghost use mathlib.Core.Path.{_≡_};
-ghost use Prim.Native.Nat.{ℕ, _*_, _^_};
+ghost use Prim.Native.Nat.{_*_, _^_};
 ghost use Rattle.block.specs.Block.{syndrome, checkWord, offsetOf, isValid};
 
 // Which of a frame's four blocks: the first is A.

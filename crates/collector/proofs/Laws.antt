@@ -18,7 +18,7 @@ use Rattle.laws.proofs.ByteFields.{at-byte, at-parts}
 use Rattle.crc.specs.Crc16.{crc16}
 use Rattle.laws.proofs.Cases.{if-yes, if-no, and-yes, and-no, or-yes, or-no, and-left, and-right}
 use Rattle.laws.proofs.Elements.{by-test, first-append, index-yes, index-no, index-holds}
-use Rattle.laws.proofs.Refusals.{stop, pass}
+use Rattle.laws.proofs.Refusals.{stop, pass, none-left}
 use Rattle.frame.specs.Heading.{refusals}
 use Rattle.frame.proofs.Accepted.{none-refused, some-refused, refused-with}
 use Rattle.collector.specs.declared.Place.{Place}
@@ -28,10 +28,6 @@ use Rattle.collector.specs.Whole.{lengthField, packetSize, isFill, sized
 use Rattle.collector.specs.Places.{blank, isPair, apart, taken, stored, marked, marksBelow, complete, fair, sameFour, contradicts, again, against, joined, whole, spoiled, state, freed, copyCases, copyAnswer, copyBytes}
 use Rattle.collector.specs.Collector.{good, indexOfPair, placeOf, isHeld, isFree, indexOfFree, put, pieceOf, itsPlace, spot, after, takeCases, keeps, takenIn, kept, offerCases, offered, releaseCases, released, copiedCases, answered, copied}
 use Rattle.collector.specs.declared.Copied.{Copied}
-
-pub none-left : first [] ≡ 0
-unfolding first
-none-left = refl
 
 -- ---- the packet's size, by its first two bytes
 pub size-bytes : (b : List ℕ) → packetSize b ≡ getD b 0 0 % 8 * 256 + getD b 1 0 % 256 + 2

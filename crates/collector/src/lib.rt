@@ -1,7 +1,7 @@
 // The collector: frames in any order, with repeats, become packets; a pair is declared whole or spoiled once.
 ghost use mathlib.Core.Path.{_≡_};
-ghost use Prim.Native.Nat.{ℕ, _+_, _<_};
-ghost use lib.ListN.{length, getD, drop};
+ghost use Prim.Native.Nat.{_+_, _<_};
+ghost use lib.ListN.{length, drop};
 ghost use Rattle.laws.specs.Scan.{all};
 ghost use Rattle.collector.specs.Places.{Small, apart};
 ghost use Rattle.collector.specs.Collector.{nothing, good, indexOfPair, indexOfFree, pieceWith, kept, takenIn, offered, released, answered, copied};

@@ -1,12 +1,12 @@
 // One place: its pair, its marks, its bytes, and what it is by them.
 ghost use mathlib.Core.Path.{_≡_};
 ghost use mathlib.Core.Bool.{true, false};
-ghost use mathlib.Core.List.{List, _++_};
-ghost use Prim.Native.Nat.{ℕ, _+_, _*_, _<_, _≤_};
-ghost use lib.ListN.{length, getD, set, take, drop};
+ghost use mathlib.Core.List.{_++_};
+ghost use Prim.Native.Nat.{_+_, _*_, _<_, _≤_};
+ghost use lib.ListN.{length, getD, take, drop};
 ghost use Rattle.laws.specs.Refusals.{first};
-ghost use Rattle.collector.specs.Whole.{passes, packetSize};
-ghost use Rattle.collector.specs.Places.{Small, free as nowhere, isPair, samePair, marked, withMark, marksBelow, complete as allHeld, fair, sameFour, against, stored, taken, freed as madeFree, joined, state, copyCases, copyAnswer, copyBytes};
+ghost use Rattle.collector.specs.Whole.{passes};
+ghost use Rattle.collector.specs.Places.{Small, free as nowhere, isPair, samePair, withMark, marksBelow, complete as allHeld, fair, sameFour, against, stored, taken, freed as madeFree, joined, state, copyCases, copyAnswer, copyBytes};
 use crate::Copied;
 use crate::Number;
 use crate::Piece;

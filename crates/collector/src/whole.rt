@@ -1,6 +1,6 @@
 // Whether joined bytes are a whole packet: their size, the packet check, the fill.
 ghost use mathlib.Core.Path.{_≡_};
-ghost use Prim.Native.Nat.{ℕ, _≤_};
+ghost use Prim.Native.Nat.{_≤_};
 ghost use lib.ListN.{length};
 ghost use Rattle.laws.specs.Scan.{all};
 ghost use Rattle.collector.specs.Whole.{packetSize, isFill, passes as rule};

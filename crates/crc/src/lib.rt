@@ -1,6 +1,6 @@
 // The packet check: CRC-16 CCITT-FALSE.
 ghost use mathlib.Core.Path.{_≡_};
-ghost use Prim.Native.Nat.{ℕ, _*_, _^_};
+ghost use Prim.Native.Nat.{_^_};
 ghost use Rattle.crc.specs.Crc16.{timesByte, taken, crc16};
 
 // The register times x^8 less multiples of the generator, with no loop: its high byte x passes x^16 and comes back times x^12 + x^5 + 1;

@@ -1,3 +1,4 @@
 pub mod Tables
 pub mod Round
 pub mod Leaves
+pub mod Sound

@@ -2,7 +2,7 @@
 -- A table is a list of lines; its values are one list of numbers to a line.
 use Prim.Native.Nat.{ℕ, zero, suc, _+_, _-_, _*_, _^_}
 use mathlib.Core.List.{List, [], _∷_, _++_}
-use mathlib.Core.Bool.{Bool, true, false, _&&_, cond}
+use mathlib.Core.Bool.{Bool, true, false, _&&_, cond, not}
 use lib.ListN.{replicate, take, drop}
 use lib.Dec.{leb, eqb}
 use Rattle.laws.specs.Bits.{run, spread}
@@ -36,6 +36,10 @@ octets n = record { n = n; w = 8; lo = 0; hi = 255; other = 0; free = true }
 -- a type, a count or a length that the table was made for
 abbrev pub just : ℕ → ℕ → Line
 just w k = record { n = 1; w = w; lo = k; hi = k; other = 26; free = false }
+
+-- a line that the loops of reader and writer take: at most 64 numbers of at most 32 bits
+abbrev pub sound : Line → Bool
+sound t = leb (t .n) 64 && leb (t .w) 32
 
 -- the lines of a row, k times
 unfoldable pub times : ℕ → List Line → List Line
@@ -85,7 +89,11 @@ unfoldable pub inside : ℕ → ℕ → List ℕ → Bool
 inside lo hi [] = true
 inside lo hi (x ∷ xs) = (leb lo x && leb x hi) && inside lo hi xs
 
--- a line is no concern of the answer k, or its numbers are as it says
+-- a line is no concern of the answer k
+abbrev pub unmet : ℕ → Line → Bool
+unmet k t = not (eqb (t .other) k)
+
+-- it is none, or its numbers are as it says
 abbrev pub lineOk : ℕ → Line → List ℕ → Bool
 lineOk k t v = cond (eqb (t .other) k) (inside (t .lo) (t .hi) v) true
 

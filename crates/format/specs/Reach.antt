@@ -2,7 +2,7 @@
 use Prim.Native.Nat.{ℕ}
 use mathlib.Core.List.{List, []}
 use mathlib.Core.Bool.{Bool, false, _&&_, cond}
-use lib.ListN.{length}
+use lib.ListN.{length, take, drop}
 use lib.Dec.{leb, ltb}
 use Rattle.laws.specs.Bits.{at, bitsOf, run, spread}
 use Rattle.format.specs.Format.{inside}
@@ -25,3 +25,7 @@ fieldBits p w x = cond (reach p 1 w) (bitsOf w x) []
 
 abbrev pub fieldsBits : ℕ → ℕ → List ℕ → List ℕ
 fieldsBits p w d = cond (reach p (length d) w) (spread w d) []
+
+-- k bytes from a byte on, as many as there are: what is handed back as a part of what is lent (01, Packet)
+abbrev pub partOf : List ℕ → ℕ → ℕ → List ℕ
+partOf b from k = take k (drop from b)

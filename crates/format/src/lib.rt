@@ -1,12 +1,11 @@
 // A table language for formats of bits: what a line of a table is, and the numbers of a table read, tested and written.
 ghost use mathlib.Core.Path.{_≡_};
-ghost use mathlib.Core.Bool.{_&&_, cond};
 ghost use Prim.Native.Nat.{_+_, _*_, _<_, _≤_, _-_, _^_};
 ghost use lib.ListN.{length, getD, set};
 ghost use lib.Seq.{sets};
 ghost use Rattle.laws.specs.Bits.{at, bitsOf, run, spread, bits};
 ghost use Rattle.format.specs.Format.{inside};
-ghost use Rattle.format.specs.Reach.{reach, fieldOf, fieldsOf, inRange, fieldBits, fieldsBits};
+ghost use Rattle.format.specs.Reach.{reach, partOf, fieldOf, fieldsOf, inRange, fieldBits, fieldsBits};
 
 // A line: n numbers of w bits, each lo to hi; other is what a reader answers where one is not.
 // A line that is not free has no numbers of its own: each of its numbers is lo.
@@ -37,6 +36,22 @@ fn byte(b: &[u8], i: usize) -> u8
     ensures { λ r. ⌜ r ≡ getD (now (b .entry)) i 0 ⌝ }
 {
     if i < b.len() { b[i] } else { 0 }
+}
+
+// k bytes from a byte on; as many as there are.
+pub fn part(b: &[u8], from: usize, k: usize) -> &[u8]
+    ensures { λ r. ⌜ now r ≡ partOf (now (b .entry)) from k ⌝ }
+{
+    let p = b.len();
+    if p <= from {
+        return &b[0..0];
+    }
+    if k < p - from {
+        let e = from + k;
+        &b[from..e]
+    } else {
+        &b[from..p]
+    }
 }
 
 // Bit i, the highest of the first byte being bit 0.

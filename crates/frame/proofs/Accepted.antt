@@ -10,17 +10,13 @@ use lib.ListN.{length}
 use lib.Dec.{eqb, leb}
 use Rattle.laws.specs.Refusals.{first, none, among, apart}
 use Rattle.laws.proofs.Bits.{at-small}
-use Rattle.laws.proofs.Cases.{if-yes, and-left, and-right, or-no}
+use Rattle.laws.proofs.Cases.{if-yes, and-left, and-right, or-no, or-both}
 use Rattle.laws.proofs.Elements.{by-test}
 use Rattle.laws.proofs.Refusals.{done, listed}
 use Rattle.frame.specs.declared.Total.{Total}
 use Rattle.frame.specs.declared.Number.{Number}
 use Rattle.frame.specs.declared.Heading.{Heading}
 use Rattle.frame.specs.Heading.{levelOf, versionOf, totalOf, numberOf, fixed, reserved, outside, refusals, fieldsOf, noHeading, headingOf}
-
-or-false : (a b : Bool) → (a || b) ≡ false → (a ≡ false) × (b ≡ false)
-or-false true b e = absurd (false≢true (sym e))
-or-false false b e = (refl, e)
 
 -- the fields of an accepted heading: level 1 to 6, version to 31, number below total, total to 63
 pub record Bounds (h : Heading) : Type 0 where
@@ -33,7 +29,7 @@ pub record Bounds (h : Heading) : Type 0 where
 pub level-bounds : (l : ℕ) → reserved l ≡ false → (1 ≤ l) × (l ≤ 6)
 unfolding reserved
 level-bounds l e =
-    let p = or-false (eqb l 0) (leb 7 l) e in
+    let p = or-both (eqb l 0) (leb 7 l) e in
     let n = eqb-false _ _ (p .0) in
     let h : l < 7 = leb-false _ _ (p .1) in
     (above l n, omega arith)
@@ -43,7 +39,7 @@ level-bounds l e =
 
 pub number-below-total : (t : Total) (n : Number) → outside t n ≡ false → n .0 < t .0
 unfolding outside
-number-below-total t n e = leb-false _ _ (or-false (eqb (t .0) 0) (leb (t .0) (n .0)) e .1)
+number-below-total t n e = leb-false _ _ (or-both (eqb (t .0) 0) (leb (t .0) (n .0)) e .1)
 
 module _ (f : List ℕ) where
   pub refusals-apart : apart (refusals f) ≡ true

@@ -1,14 +1,14 @@
 -- What a frame's bytes on air are as bits, and those of frames one after the other. Assumes nothing.
-use mathlib.Core.Path.{_≡_, refl, sym, ap, ap₂, _∙_}
+use mathlib.Core.Path.{_≡_, refl, sym, ap, _∙_}
 use mathlib.Core.List.{List, [], _∷_, _++_, append-assoc, append-nil}
-use Prim.Native.Nat.{ℕ, zero, suc, _+_, _*_, _/_, _%_, _^_, _<_, _≤_}
+use Prim.Native.Nat.{ℕ, _+_, _*_, _/_, _^_}
 use native.Mathlib.Omega.{arith}
-use lib.ListN.{length, getD, length-append, take, drop}
+use lib.ListN.{length, length-append}
 use lib.Seq.{take-all}
 use Rattle.laws.specs.Bits.{at, bitsOf, run, spread, bits, bytes}
-use Rattle.laws.proofs.Bits.{Under, length-bitsOf, length-spread, length-run, under-append, under-bitsOf, under-spread, at-below, bits-bytes, bytes-bits, spread-run}
+use Rattle.laws.proofs.Bits.{Under, length-bitsOf, length-spread, length-run, under-append, under-bitsOf, under-spread, bits-bytes, bytes-bits, spread-run, spread-append}
 use Rattle.laws.proofs.Words.{bits-join}
-use Rattle.block.specs.Block.{offsetOf, checkWord, isValid}
+use Rattle.block.specs.Block.{offsetOf, checkWord}
 use Rattle.block.specs.declared.Letter.{Letter}
 use Rattle.block.specs.declared.Letter.the-variants.{A, B, C, D}
 use Rattle.block.proofs.Validity.{check-word-small}
@@ -16,9 +16,7 @@ use Rattle.frame.specs.OnAir.{blockBits, frameBits, airBytes, streamOf}
 
 -- the bits of bytes one behind another
 pub bits-append : (a b : List ℕ) → bits (a ++ b) ≡ bits a ++ bits b
-unfolding spread
-bits-append [] b = refl
-bits-append (x ∷ a) b = ap (λ (l : List ℕ). bitsOf 8 x ++ l) (bits-append a b) ∙ sym (append-assoc (bitsOf 8 x) (spread 8 a) (spread 8 b))
+bits-append a b = spread-append 8 a b
 
 module _ (w : ℕ) (x : Letter) where
   -- a block's bits are those of one number

@@ -1,13 +1,12 @@
 -- Worked examples of the heading, computed on the definitions (paper 01, "Pier examples").
 use mathlib.Core.Path.{_≡_, refl}
-use mathlib.Core.List.{List, [], _∷_}
+use mathlib.Core.List.{[], _∷_}
 use Prim.Native.Nat.{ℕ}
 use Rattle.laws.specs.Bits.{at, bitsOf, run, spread}
 use Rattle.laws.specs.Refusals.{first}
 use Rattle.laws.specs.Poly.{reduce, remainder}
 use Rattle.block.specs.Block.{syndrome, checkWord}
 use Rattle.frame.specs.declared.Heading.{Heading}
-use Rattle.frame.specs.declared.Headed.{Headed}
 use Rattle.frame.specs.Heading.{fixed, reserved, outside, refusals, fieldsOf, noHeading, headingOf, headingBits, headingWords, headingBytes}
 use Rattle.frame.specs.OnAir.{blockBits, frameBits, airBytes}
 

@@ -1,6 +1,5 @@
 // The heading of a frame: whose message it is of, how many frames that has, and which of them it is.
 ghost use mathlib.Core.Path.{_≡_};
-ghost use Prim.Native.Nat.{ℕ, _<_};
 ghost use Rattle.frame.specs.Heading.{noHeading, headingOf};
 
 // How many frames a message has, from 1 to 63.

@@ -1,6 +1,6 @@
 -- Laws of numbers in bits: the bits of a number give it back, bits give themselves back as numbers, and so for bytes. Assumes nothing.
 use mathlib.Core.Path.{_≡_, refl, sym, ap, _∙_}
-use mathlib.Core.List.{List, [], _∷_, _++_}
+use mathlib.Core.List.{List, [], _∷_, _++_, append-assoc}
 use Prim.Native.Nat.{ℕ, zero, suc, _+_, _*_, _/_, _%_, _-_, _^_, _<_, _≤_}
 use native.Mathlib.Nat.{suc-mul, zero-div, div-div-eq-div-mul, pow-le-pow-right, lt-of-lt-of-le}
 use native.Mathlib.Omega.{arith}
@@ -70,6 +70,12 @@ length-spread w [] = omega arith
 length-spread w (x ∷ xs) =
     length-append (bitsOf w x) (spread w xs) ∙ omega (arith, length-bitsOf w x, length-spread w xs, suc-mul (length xs) w)
 
+pub spread-append : (w : ℕ) (u v : List ℕ) → spread w (u ++ v) ≡ spread w u ++ spread w v
+unfolding spread
+spread-append w [] v = refl
+spread-append w (x ∷ u) v =
+    ap (λ (l : List ℕ). bitsOf w x ++ l) (spread-append w u v) ∙ sym (append-assoc (bitsOf w x) (spread w u) (spread w v))
+
 pub run-right : (u l : List ℕ) (p n w : ℕ) → run (u ++ l) (length u + p) n w ≡ run l p n w
 unfolding run
 run-right u l p zero w = refl
@@ -112,6 +118,15 @@ pub under-append : (k : ℕ) (u v : List ℕ) → Under k u → Under k v → Un
 under-append k [] v hu hv i = hv i
 under-append k (x ∷ u) v hu hv zero = hu 0
 under-append k (x ∷ u) v hu hv (suc i) = under-append k u v (λ j. hu (suc j)) hv i
+
+pub under-take : (k n : ℕ) (l : List ℕ) → Under k l → Under k (take n l)
+under-take k zero l u i = omega (arith, u (length l))
+under-take k (suc n) [] u i = u i
+under-take k (suc n) (x ∷ l) u zero = u 0
+under-take k (suc n) (x ∷ l) u (suc i) = under-take k n l (λ j. u (suc j)) i
+
+pub under-drop : (k n : ℕ) (l : List ℕ) → Under k l → Under k (drop n l)
+under-drop k n l u i = rw (getD-drop n l i 0) (u (n + i))
 
 pub under-bitsOf : (w x : ℕ) → Under 2 (bitsOf w x)
 unfolding bitsOf

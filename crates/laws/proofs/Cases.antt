@@ -1,5 +1,5 @@
 -- A test that is known picks its case. Over variables, so that an answer applies them with no rewriting of its goal. Assumes nothing.
-use mathlib.Core.Path.{_≡_, refl}
+use mathlib.Core.Path.{_≡_, refl, sym}
 use mathlib.Core.Bool.{Bool, true, false, cond, _&&_, _||_, false≢true}
 
 pub and-yes : {a : Bool} (b : Bool) → a ≡ true → (a && b) ≡ b
@@ -32,3 +32,8 @@ and-right false b e = absurd (false≢true e)
 
 pub and-both : (a b : Bool) → (a && b) ≡ true → (a ≡ true) × (b ≡ true)
 and-both a b e = (and-left a b e, and-right a b e)
+
+-- and one that fails
+pub or-both : (a b : Bool) → (a || b) ≡ false → (a ≡ false) × (b ≡ false)
+or-both true b e = absurd (false≢true (sym e))
+or-both false b e = (refl, e)

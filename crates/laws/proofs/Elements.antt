@@ -1,15 +1,13 @@
 -- What is known of a list from a test of its elements, and what a store keeps of it. Assumes nothing.
 use mathlib.Core.Path.{_≡_, refl, sym, ap, ap₂, _∙_}
 use mathlib.Core.List.{List, [], _∷_, _++_, map}
-use mathlib.Core.Bool.{Bool, true, false, cond, not, _&&_}
-use Prim.Native.Nat.{ℕ, zero, suc, _+_, _<_, _≤_}
+use mathlib.Core.Bool.{Bool, true, false, cond, not}
+use Prim.Native.Nat.{ℕ, zero, suc, _+_, _<_}
 use native.Mathlib.Nat.{le-of-lt, not-suc-le-zero, le-of-suc-le-suc}
 use native.Mathlib.Numerals.{add-one}
 use native.Mathlib.Omega.{arith}
 use lib.ListN.{length, length-map, getD, set, take, drop}
 use lib.Seq.{drop-cons, set-at, length-take-le, append-snoc, take-suc}
-use lib.Dec.{ltb}
-use borrow.Author.Tests.{lt-ltb, le-ltb}
 use Rattle.laws.specs.Scan.{all, indexOf}
 use Rattle.laws.specs.Refusals.{Case, first, none}
 use Rattle.laws.proofs.Cases.{if-yes, if-no, and-yes, and-no, and-left, and-right}
@@ -18,13 +16,6 @@ use Rattle.laws.proofs.Cases.{if-yes, if-no, and-yes, and-no, and-left,
 pub by-test : {P : Type 0} (b : Bool) → (b ≡ true → P) → (b ≡ false → P) → P
 by-test true f g = f refl
 by-test false f g = g refl
-
--- a test of a number that is known under another name
-pub ltb-at : {i j : ℕ} (n : ℕ) → i ≡ j → i < n → ltb j n ≡ true
-ltb-at n e h = rw e at (lt-ltb _ n h)
-
-pub ltb-past : {i j : ℕ} (n : ℕ) → i ≡ j → n ≤ i → ltb j n ≡ false
-ltb-past n e h = rw e at (le-ltb _ n h)
 
 -- the length of an array of structs is that of any list made of it element by element
 pub length-mapped : {X Y : Type 0} (f : X → Y) (l : List X) (n : ℕ) → length (map f l) ≡ n → length l ≡ n

@@ -12,4 +12,3 @@ pub mod ByteFields
 pub mod Words
 pub mod Writes
 pub mod Parts
-pub mod Passed

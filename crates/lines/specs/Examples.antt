@@ -1,7 +1,6 @@
 -- Worked examples of a line, computed on the definitions.
 use mathlib.Core.Path.{_≡_, refl}
-use mathlib.Core.List.{List, [], _∷_}
-use Prim.Native.Nat.{ℕ}
+use mathlib.Core.List.{[], _∷_}
 use Rattle.lines.specs.Lines.{hexOf, decimalOf, lineOf}
 
 -- "0000000000000000 12"

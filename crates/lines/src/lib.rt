@@ -1,10 +1,10 @@
 // What the listing program prints of a frame.
 ghost use mathlib.Core.Path.{_≡_};
 ghost use mathlib.Core.List.{[], _∷_, _++_};
-ghost use Prim.Native.Nat.{ℕ, _+_, _*_, _<_, _≤_};
+ghost use Prim.Native.Nat.{_+_, _*_, _<_, _≤_};
 ghost use lib.ListN.{length};
 ghost use lib.Seq.{sets};
-ghost use Rattle.lines.specs.Lines.{glyph, hexOf, decimalOf, lineOf, writtenOf, outputOf};
+ghost use Rattle.lines.specs.Lines.{glyph, hexOf, decimalOf, writtenOf, outputOf};
 
 // 0 to 9, A to F.
 fn hex_glyph(d: u8) -> u8

@@ -3,17 +3,14 @@ use mathlib.Core.Path.{_≡_, refl, sym, ap, ap₂, subst, _∙_}
 use mathlib.Core.List.{List, [], _∷_, _++_, append-assoc, append-nil, List·Memᴰ, List·Memᴰ·head, List·Memᴰ·tail}
 use mathlib.Core.Option.{Option, none, some}
 use mathlib.Core.Bool.{Bool, true, false, cond, not, _&&_, _||_, false≢true, and-false}
-use Prim.Native.Nat.{ℕ, zero, suc, _+_, _<_}
-use native.Mathlib.Decide.{decLt}
-use native.Mathlib.Nat.{not-suc-le-zero}
+use Prim.Native.Nat.{ℕ, _+_, _<_}
 use native.Mathlib.Omega.{arith}
 use lib.Dec.{eqb}
 use borrow.Author.Tests.{eqb-true, eq-eqb}
-use Rattle.laws.specs.Below.{below}
 use Rattle.laws.specs.Refusals.{first}
 use Rattle.laws.proofs.Cases.{if-yes, if-no, and-yes, and-no, and-left, and-right}
 use Rattle.laws.proofs.Elements.{by-test}
-use Rattle.laws.proofs.Refusals.{stop, pass}
+use Rattle.laws.proofs.Refusals.{stop, pass, none-left}
 use Rattle.frame.specs.declared.Total.{Total}
 use Rattle.frame.specs.declared.Number.{Number}
 use Rattle.frame.specs.Heading.{refusals, accepted}
@@ -23,13 +20,13 @@ use Rattle.collector.specs.declared.Piece.{Piece}
 use Rattle.collector.specs.declared.Offered.{Offered}
 use Rattle.collector.specs.Whole.{passes}
 use Rattle.collector.specs.Collector.{nothing, pieceOf, takenIn, offered}
-use Rattle.collector.proofs.Laws.{none-left}
 use Rattle.order.specs.Held.{Four, offerAll, declares, declarations}
 use Rattle.order.specs.Given.{pieces, four, ofPair, ofKey, came, Pair, Bounded, firstOf, given, totalGiven, isSome, full, joinedBy, declareCases, givenWith, dueCases, completeBy, completed}
 use Rattle.order.proofs.Keeping.{empty-good}
 use Rattle.order.proofs.Declaring.{full-alike}
 use Rattle.order.proofs.Running.{Clear, Feed, orElse, some-inj, none-some, found-append, came-given, key-parts, mem-left, mem-right, answer-due}
-use Rattle.order.proofs.Offering.{offered-taken, offered-refused, all-good, all-taken, pieces-yes, pieces-no, pieces-append, refused-some, feed, bounded-among}
+use Rattle.order.proofs.Offering.{offered-taken, offered-refused, all-good, all-taken, pieces-yes, pieces-no, pieces-append, refused-some, feed, bounded-among, offer-on}
+use Rattle.laws.proofs.Below.{below-no}
 
 one-if : Bool → ℕ
 one-if b = cond b 1 0
@@ -75,16 +72,6 @@ total-agrees (y ∷ ps) l v t k u e =
     (λ q. sym (some-inj (sym (if-yes _ _ q) ∙ e)) ∙ k y (List·Memᴰ·head refl) q)
     (λ q. total-agrees ps l v t (λ z m. k z (List·Memᴰ·tail m)) u (sym (if-no _ _ q) ∙ e))
 
--- a number below the total that has not come leaves the pair incomplete
-below-fails : (n : ℕ) (f : ℕ → Bool) (k : ℕ) → k < n → f k ≡ false → below n f ≡ false
-unfolding below
-below-fails zero f k h e = absurd (not-suc-le-zero h)
-below-fails (suc n) f k h e =
-    elim (decLt k n) [
-      | yes l ↦ by-test (f n) (λ t. and-yes _ t ∙ below-fails n f k l e) (λ t. and-no _ t)
-      | no l ↦ let q : n ≡ k = omega arith in and-no _ (ap f q ∙ e)
-    ]
-
 -- 1 or 17 is due just where every number has its bytes
 says-declared : (t : Total) (g : Number → Option Four) → (eqb (first (declareCases t g)) 1 || eqb (first (declareCases t g)) 17) ≡ full t g
 unfolding declareCases
@@ -108,7 +95,7 @@ complete-alike o u f g e k = ap (λ (w : Option Total). completeBy w f) e ∙ by
 
 missing-one : (t : Total) (g : Number → Option Four) (n : Number) → n .0 < t .0 → isSome (g n) ≡ false → full t g ≡ false
 unfolding full
-missing-one t g n h e = below-fails (t .0) (λ k. isSome (g (record { 0 = k }))) (n .0) h e
+missing-one t g n h e = below-no (t .0) (λ k. isSome (g (record { 0 = k }))) (n .0) h e
 
 own-total : (x : Piece) → totalGiven (x ∷ []) (x .heading .level) (x .heading .version) ≡ some (x .heading .total)
 unfolding firstOf
@@ -199,8 +186,7 @@ module _ (qs : List Pair) (ps : List Piece) (x : Piece) (fd : Feed qs (ps ++ (x 
 -- ---- a run
 offer-last : (fs : List (List ℕ)) (f : List ℕ) (c : Collector) → offerAll c (fs ++ (f ∷ [])) ≡ offered (offerAll c fs) f .collector
 unfolding offerAll
-offer-last [] f c = refl
-offer-last (g ∷ fs) f c = offer-last fs f (offered c g .collector)
+offer-last fs f c = offer-on fs (f ∷ []) c
 
 module _ (qs : List Pair) (l v : ℕ) where
   step-counts : (before : List (List ℕ)) (f : List ℕ) → Bounded qs (before ++ (f ∷ []))

@@ -2,19 +2,19 @@
 use mathlib.Core.Path.{_≡_, refl, sym, ap, subst, _∙_}
 use mathlib.Core.List.{List, [], _∷_, _++_, List·Memᴰ, List·Memᴰ·head, List·Memᴰ·tail, List·Memᴰ·not-nil, List·Memᴰ·cases-cons}
 use mathlib.Core.Logic.{⊎-elim}
-use mathlib.Core.Bool.{Bool, true, false, not, _&&_, _||_, false≢true}
+use mathlib.Core.Bool.{Bool, true, false, not, _&&_, false≢true}
 use Prim.Native.Nat.{ℕ}
 use lib.Dec.{eqb}
 use borrow.Author.Tests.{not-false, eqb-true, eqb-false}
 use Rattle.laws.specs.Refusals.{first}
-use Rattle.laws.proofs.Cases.{if-yes, if-no, and-left, and-right}
+use Rattle.laws.proofs.Cases.{if-yes, if-no, and-left, and-right, or-both}
 use Rattle.laws.proofs.Elements.{by-test}
 use Rattle.frame.specs.Heading.{refusals, accepted}
 use Rattle.frame.proofs.Accepted.{Bounds, answer-is, bounds}
 use Rattle.collector.specs.declared.Collector.{Collector}
 use Rattle.collector.specs.declared.Piece.{Piece}
 use Rattle.collector.specs.declared.Offered.{Offered}
-use Rattle.collector.specs.Collector.{nothing, pieceOf, takenIn, offered}
+use Rattle.collector.specs.Collector.{pieceOf, takenIn, offered}
 use Rattle.collector.proofs.Laws.{offer-heading, offer-taken}
 use Rattle.order.specs.Held.{offerAll, takeAll}
 use Rattle.order.specs.Given.{pieces, four, ofPair, sameBytes, contradict, Pair, among, Bounded, Rearranged, none-left, one-kept, two-swapped, and-then}
@@ -54,6 +54,12 @@ all-taken (f ∷ fs) c g =
     (λ e.
     ap (λ (o : Offered). takeAll (o .collector) (pieces fs)) (offered-refused c f g e)
     ∙ sym (ap (takeAll c) (if-no (pieceOf f ∷ pieces fs) (pieces fs) e)))
+
+-- offers of one list, then of another
+pub offer-on : (xs ys : List (List ℕ)) (c : Collector) → offerAll c (xs ++ ys) ≡ offerAll (offerAll c xs) ys
+unfolding offerAll
+offer-on [] ys c = refl
+offer-on (x ∷ xs) ys c = offer-on xs ys (offered c x .collector)
 
 -- ---- the pieces are those of the accepted frames
 pub pieces-yes : (f : List ℕ) (fs : List (List ℕ)) → accepted f ≡ true → pieces (f ∷ fs) ≡ pieceOf f ∷ pieces fs
@@ -105,10 +111,6 @@ of-pieces (g ∷ fs) f i e =
         (λ a. subst (λ (l : List Piece). List·Memᴰ (pieceOf f) l) (sym (pieces-no g fs a)) k)
 
 -- ---- frames that do not contradict are clear of each other
-or-false : (a b : Bool) → (a || b) ≡ false → (a ≡ false) × (b ≡ false)
-or-false true b e = absurd (false≢true (sym e))
-or-false false b e = (refl, e)
-
 and-false-left : (a b : Bool) → (a && b) ≡ false → a ≡ true → b ≡ false
 and-false-left true b e t = e
 and-false-left false b e t = absurd (false≢true t)
@@ -128,7 +130,7 @@ clear-is x y e =
     apart : ofPair (y .heading .level) (y .heading .version) x ≡ true
         → (not (eqb (x .heading .total .0) (y .heading .total .0)) ≡ false)
         × ((eqb (x .heading .number .0) (y .heading .number .0) && not (sameBytes x y)) ≡ false)
-    apart p = or-false _ _ (and-false-left (ofPair (y .heading .level) (y .heading .version) x) _ e p)
+    apart p = or-both _ _ (and-false-left (ofPair (y .heading .level) (y .heading .version) x) _ e p)
 
     four-same : sameBytes x y ≡ true → four x ≡ four y
     four-same s =

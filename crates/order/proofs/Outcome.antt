@@ -20,14 +20,6 @@ atPair c x = indexOf (isPair (x .heading .level) (x .heading .version)) (c .plac
 abbrev pub atFree : Collector → ℕ
 atFree c = indexOf isFree (c .places)
 
-pub pair-is : (c : Collector) (x : Piece) → indexOfPair (x .heading .level) (x .heading .version) (c .places) ≡ atPair c x
-unfolding indexOfPair
-pair-is c x = refl
-
-pub free-is : (c : Collector) → indexOfFree (c .places) ≡ atFree c
-unfolding indexOfFree
-free-is c = refl
-
 pub data Outcome (c : Collector) (x : Piece) : Type 0 where
   turned : (a : ℕ) → atPair c x < length (c .places) → a ≡ against (itsPlace c x) x → (a ≡ 0 → ⊥) → record { answer = a; collector = c } ≡ takenIn c x → Outcome c x
   joins : atPair c x < length (c .places) → against (itsPlace c x) x ≡ 0 → kept c (atPair c x) (itsPlace c x) x ≡ takenIn c x → Outcome c x

@@ -1,8 +1,7 @@
 -- Demand 3: what a collector holds, answers and hands out follows from the frames alone, whatever their order. Assumes nothing.
 use mathlib.Core.Path.{_≡_, refl, sym, ap, ap₂, subst, _∙_}
-use mathlib.Core.List.{List, [], _∷_, _++_, List·Memᴰ, List·Memᴰ·head, List·Memᴰ·tail}
+use mathlib.Core.List.{List, [], _∷_, _++_, List·Memᴰ, List·Memᴰ·head, List·Memᴰ·tail, List·Memᴰ·cases-cons, List·Memᴰ·not-nil}
 use mathlib.Core.Logic.{_↔_, ⊎-elim}
-use mathlib.Core.List.{List·Memᴰ·cases-cons, List·Memᴰ·not-nil}
 use mathlib.Core.Option.{Option, none, some}
 use mathlib.Core.Bool.{Bool, true, false, not, true≢false}
 use Prim.Native.Nat.{ℕ, zero, suc, _≤_, _<_}
@@ -33,7 +32,7 @@ use Rattle.order.specs.Given.{pieces, four, ofPair, ofKey, Pair, Bounded
 use Rattle.order.proofs.Keeping.{Good, kept-collector, empty-good, offer-good, release-good}
 use Rattle.order.proofs.Outcome.{Outcome, turned, joins, starts, finds-none, outcome, atPair, atFree}
 use Rattle.order.proofs.Running.{Feed, some-inj, none-some, held-given, total-given, answer-due, key-parts}
-use Rattle.order.proofs.Offering.{offered-taken, offered-refused, all-good, all-taken, pieces-yes, pieces-append, From, pieces-of, of-pieces, accepted-none, refused-some, feed, moved, back, bounded-among}
+use Rattle.order.proofs.Offering.{offered-taken, offered-refused, all-good, all-taken, pieces-yes, pieces-append, pieces-of, of-pieces, accepted-none, refused-some, feed, moved, back, bounded-among}
 use Rattle.order.proofs.Copying.{same-copies}
 
 -- ---- holdings

@@ -1,9 +1,7 @@
 -- Worked examples, computed on the definitions: a packet of eight bytes in three frames, of level 5 and version 3.
 use mathlib.Core.Path.{_≡_, refl}
 use mathlib.Core.List.{List, [], _∷_}
-use mathlib.Core.Bool.{Bool, true}
 use Prim.Native.Nat.{ℕ}
-use lib.Dec.{eqb}
 use Rattle.laws.specs.Poly.{reduce, remainder}
 use Rattle.laws.specs.Bits.{at, bitsOf, spread}
 use Rattle.laws.specs.Below.{below}
@@ -11,11 +9,9 @@ use Rattle.laws.specs.Scan.{all, indexOf}
 use Rattle.laws.specs.Refusals.{first}
 use Rattle.crc.specs.Crc16.{timesByte, taken as takenIn, takenAll, crc16}
 use Rattle.frame.specs.Heading.{fixed, reserved, outside, refusals, fieldsOf, headingOf, accepted}
-use Rattle.collector.specs.declared.Offered.{Offered}
-use Rattle.collector.specs.declared.Copied.{Copied}
 use Rattle.collector.specs.Whole.{packetSize, sized, checked, filled, passes}
-use Rattle.collector.specs.Places.{marksBelow, complete, fair, contradicts, again, taken, stored, freed, whole, spoiled, state, copyCases, copyAnswer, copyBytes}
-use Rattle.collector.specs.Collector.{nothing, good, indexOfPair, indexOfFree, spot, after, takeCases, keeps, offerCases, offered, releaseCases, released, copiedCases, answered, copied}
+use Rattle.collector.specs.Places.{marksBelow, complete, fair, contradicts, again, taken, stored, whole, spoiled, copyCases, copyBytes}
+use Rattle.collector.specs.Collector.{nothing, good, indexOfPair, indexOfFree, spot, after, takeCases, keeps, offerCases, offered, copiedCases, copied}
 use Rattle.order.specs.Held.{offerAll}
 use Rattle.order.specs.Given.{pieces, firstOf, same, came, full, joinedTo, declareCases, dueCases, due}
 

@@ -1,9 +1,9 @@
 -- Worked examples of packets, computed (paper 01, "Pier examples"): what is written, and what is answered.
 use mathlib.Core.Path.{_≡_, refl}
 use mathlib.Core.List.{List, [], _∷_}
-use mathlib.Core.Bool.{Bool, true, false, _&&_}
+use mathlib.Core.Bool.{Bool, true, _&&_}
 use Prim.Native.Nat.{ℕ}
-use lib.ListN.{length, getD, replicate}
+use lib.ListN.{getD, replicate}
 use lib.Dec.{T, eqb}
 use Rattle.laws.specs.Bits.{at, bitsOf, run, spread}
 use Rattle.laws.specs.Refusals.{first}

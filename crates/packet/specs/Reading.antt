@@ -1,7 +1,7 @@
 -- What a packet's bytes say, and what a reader answers (paper 01, "Packet" and "Numbers given back", Reader).
 use Prim.Native.Nat.{ℕ, zero, suc, _+_, _-_, _*_, _/_}
 use mathlib.Core.List.{List, [], _∷_, _++_}
-use mathlib.Core.Bool.{Bool, true, false, not, _&&_, _||_, cond}
+use mathlib.Core.Bool.{Bool, not, _&&_, _||_, cond}
 use lib.ListN.{length, replicate, take, drop}
 use lib.Seq.{sets}
 use lib.Dec.{leb, eqb}

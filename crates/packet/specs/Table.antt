@@ -1,7 +1,7 @@
 -- The packet as a table (000, 6.1.1 and 6.1.2; paper 01, "Packet"): a row for each kind of content, and the lines about them.
-use Prim.Native.Nat.{ℕ, _+_, _-_, _*_}
+use Prim.Native.Nat.{ℕ, _+_, _-_}
 use mathlib.Core.List.{List, [], _∷_, _++_}
-use mathlib.Core.Bool.{Bool, true, false, _&&_, _||_}
+use mathlib.Core.Bool.{Bool, true, false, _&&_}
 use lib.Dec.{leb, eqb}
 use Rattle.laws.specs.Bits.{at}
 use Rattle.format.specs.declared.Line.{Line}

@@ -16,20 +16,6 @@ fn byte(b: &[u8], i: usize) -> u8 {
     if i < b.len() { b[i] } else { 0 }
 }
 
-// k bytes from a byte on; as many as there are.
-fn part(b: &[u8], from: usize, k: usize) -> &[u8] {
-    let p = b.len();
-    if p <= from {
-        return &b[0..0];
-    }
-    if k < p - from {
-        let e = from + k;
-        &b[from..e]
-    } else {
-        &b[from..p]
-    }
-}
-
 // What is given, what it should be, and whether they are the same.
 fn number(name: &[u8], gives: u8, should_be: u8) {
     say(name);
@@ -88,7 +74,7 @@ fn written(f: Fields, codes: &[u8], body: &[u8], packet: &[u8]) {
             writer::write(f, codes, body, &mut short).answer,
             10,
         );
-        text(part(&out, 0, w.length), packet);
+        text(format::part(&out, 0, w.length), packet);
     }
 }
 
@@ -101,9 +87,14 @@ fn back(o: Opened, packet: &[u8]) {
     let n = codes_length(f.codes);
     let k = entries_length(content);
     if k == 0 {
-        written(f, part(&digits, 0, n), reader::body(packet), packet);
+        written(f, format::part(&digits, 0, n), reader::body(packet), packet);
     } else {
-        written(f, part(&digits, 0, n), part(&entries, 0, k), packet);
+        written(
+            f,
+            format::part(&digits, 0, n),
+            format::part(&entries, 0, k),
+            packet,
+        );
     }
 }
 
@@ -124,11 +115,11 @@ fn case(b: &[u8]) -> usize
     let t = words as usize;
     let high = byte(b, n + 4 + t);
     let low = byte(b, n + 5 + t);
-    let packet = part(b, n + 6 + t, 256 * (high as usize) + low as usize);
-    say(part(b, 1, n));
+    let packet = format::part(b, n + 6 + t, 256 * (high as usize) + low as usize);
+    say(format::part(b, 1, n));
     number(b": read ", reader::read(packet).answer, byte(b, n + 1));
     number(b"; text ", reader::text_answer(packet), byte(b, n + 2));
-    text(reader::text(packet), part(b, n + 4, t));
+    text(reader::text(packet), format::part(b, n + 4, t));
     let o = reader::read(packet);
     if o.answer == 0 {
         back(o, packet);
@@ -146,10 +137,10 @@ fn capped(n: usize) -> usize
 fn main() {
     let mut cases = io::large_buffer();
     let n = io::read_full(STDIN_FILENO, &mut cases);
-    let all = part(&cases, 0, n);
+    let all = format::part(&cases, 0, n);
     let end = capped(all.len());
     let mut i: usize = 0;
     while i < end {
-        i += case(part(all, i, 65536));
+        i += case(format::part(all, i, 65536));
     }
 }

@@ -1,7 +1,7 @@
 -- The whole chain: fields to packet to air bytes to frames to packet to fields. Assumes nothing.
 use mathlib.Core.Path.{_≡_, sym, ap, subst, _∙_}
-use mathlib.Core.Bool.{true, false, cond, not}
-use mathlib.Core.List.{List, [], _++_}
+use mathlib.Core.Bool.{true, cond, not}
+use mathlib.Core.List.{List, []}
 use Prim.Native.Nat.{ℕ, _*_, _≤_}
 use native.Mathlib.Omega.{arith}
 use lib.ListN.{length, take, drop}
@@ -21,8 +21,11 @@ use Rattle.packet.specs.declared.Fields.{Fields}
 use Rattle.packet.specs.Content.{formFor}
 use Rattle.packet.specs.Reading.{hasEntries, opened, bodyOf}
 use Rattle.packet.specs.Writing as writing
-use Rattle.trips.proofs.Back.{Accepted, accepted, answer-of}
-use Rattle.trips.proofs.There.{Typed, asGiven, packet-is, fields-come-back}
+use Rattle.trips.proofs.Back.{answer-of}
+use Rattle.trips.proofs.Accepted.{Accepted, accepted}
+use Rattle.trips.proofs.There.{packet-is, fields-come-back}
+use Rattle.trips.proofs.Typed.{Typed}
+use Rattle.trips.proofs.Reread.{asGiven}
 use Rattle.promises.proofs.Air.{air-comes-back}
 use Rattle.promises.proofs.Frames.{frames-come-back}
 

@@ -1,6 +1,6 @@
 -- The frames of a packet, offered to an empty collector, give the packet back. Assumes nothing.
 use mathlib.Core.Path.{_≡_, refl, sym, ap, ap₂, subst, _∙_}
-use mathlib.Core.Bool.{Bool, true, false, cond, not, true≢false}
+use mathlib.Core.Bool.{true, false, cond, not}
 use mathlib.Core.List.{List, [], _∷_, _++_}
 use mathlib.Core.Option.{Option, some}
 use Prim.Native.Nat.{ℕ, zero, suc, _+_, _-_, _*_, _<_, _≤_}
@@ -9,10 +9,9 @@ use lib.ListN.{length, take, drop, replicate}
 use lib.Seq.{take-at}
 use lib.Dec.{eqb, ltb}
 use borrow.Author.Tests.{eq-eqb, le-ltb, ltb-true, ltb-false}
-use Rattle.laws.specs.Below.{below}
 use Rattle.laws.specs.Refusals.{first}
 use Rattle.laws.specs.Scan.{indexOf}
-use Rattle.laws.proofs.Below.{at-each}
+use Rattle.laws.proofs.Below.{below-yes, below-no}
 use Rattle.laws.proofs.Bits.{Under}
 use Rattle.laws.proofs.Cases.{if-yes, and-yes, and-no}
 use Rattle.laws.proofs.Elements.{by-test, first-append}
@@ -36,27 +35,12 @@ use Rattle.order.proofs.Lookup.{lookup-found, lookup-missing}
 use Rattle.order.proofs.Declaring.{complete-full, joined-full}
 use Rattle.order.proofs.Running.{some-inj, none-some}
 use Rattle.order.proofs.Copying.{place-sound}
-use Rattle.order.proofs.Offering.{all-good}
+use Rattle.order.proofs.Offering.{all-good, offer-on}
 use Rattle.order.proofs.Theorems.{holdings, answers}
 use Rattle.promises.specs.Run.{answersTo}
 use Rattle.promises.proofs.Sent.{Taken, taken, frames-few}
 use Rattle.promises.proofs.Joined.{padFrom, pad-on, pad-four, behind, fill, size-is, passes-is, fill-small, carried-whole}
 use Rattle.promises.proofs.Pieces.{frameAt, pieceAt, none-due, piece-is, piecesFrom, pieces-are, pieces-on, given-in, given-out, total-in, not-come, bounded}
-
--- ---- a test at every number below n
-below-yes : (n : ℕ) (f : ℕ → Bool) → ((k : ℕ) → k < n → f k ≡ true) → below n f ≡ true
-unfolding below
-below-yes zero f e = refl
-below-yes (suc n) f e = and-yes _ (e n (omega arith)) ∙ below-yes n f (λ k h. e k (omega arith))
-
-below-no : (n : ℕ) (f : ℕ → Bool) (k : ℕ) → k < n → f k ≡ false → below n f ≡ false
-below-no n f k h e = by-test (below n f) (λ t. absurd (true≢false (sym (at-each n f t k h) ∙ e))) (λ t. t)
-
--- ---- offers one after the other
-offer-on : (xs ys : List (List ℕ)) (c : Collector) → offerAll c (xs ++ ys) ≡ offerAll (offerAll c xs) ys
-unfolding offerAll
-offer-on [] ys c = refl
-offer-on (x ∷ xs) ys c = offer-on xs ys (offered c x .collector)
 
 module _ (p : List ℕ) (l v : ℕ) (u : Under 256 p) (t : Taken p l v) where
   abbrev N : ℕ

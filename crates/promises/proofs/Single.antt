@@ -2,7 +2,7 @@
 use mathlib.Core.Path.{_≡_, sym, ap, ap₂, subst, _∙_}
 use mathlib.Core.List.{List, _++_}
 use Prim.Native.Nat.{ℕ, _-_, _≤_}
-use lib.ListN.{length, take, drop, replicate, take-append-drop}
+use lib.ListN.{length, replicate, take-append-drop}
 use lib.Seq.{length-take-le}
 use Rattle.format.specs.declared.Line.{Line}
 use Rattle.format.specs.Format.{octets}

@@ -1,34 +1,19 @@
 -- Laws for loops over the lines of a table: a turn and the end of each. Assumes nothing.
 use mathlib.Core.Path.{_≡_, sym, ap, _∙_}
-use mathlib.Core.List.{List, _∷_, map}
+use mathlib.Core.List.{List, _∷_}
 use mathlib.Core.Bool.{Bool, true, false, _&&_}
 use Prim.Native.Nat.{ℕ, suc, _+_, _*_, _-_, _<_, _≤_}
-use native.Mathlib.Nat.{le-trans, mul-le-mul-left}
 use native.Mathlib.Numerals.{add-one}
 use native.Mathlib.Omega.{arith}
-use lib.Dec.{leb}
-use lib.ListN.{length, length-map, getD, take, drop, drop-of-length-le}
+use lib.ListN.{length, getD, take, drop, drop-of-length-le}
 use lib.Seq.{length-take-le, getD-take, drop-cons}
-use borrow.Author.Tests.{leb-true, eq-eqb, ne-eqb}
+use borrow.Author.Tests.{eq-eqb, ne-eqb}
 use Rattle.laws.specs.Bits.{run}
 use Rattle.laws.specs.Scan.{all}
 use Rattle.laws.proofs.Cases.{and-both}
 use Rattle.format.specs.declared.Line.{Line}
-use Rattle.format.specs.Format.{times, size, decode, lineOk, fine}
-use Rattle.format.proofs.Tables.{fine-append, all-times, apart-fine}
-use Rattle.reader.specs.Sound.{sound, unmet}
-
-pub record Sound (t : Line) : Type 0 where
-  pub few : t .n ≤ 64
-  pub narrow : t .w ≤ 32
-  pub area : t .n * t .w ≤ 2048
-
-pub sound-is : (t : Line) → sound t ≡ true → Sound t
-sound-is t e =
-    let a = and-both (leb (t .n) 64) (leb (t .w) 32) e in
-    let n = leb-true (t .n) 64 (a .0) in
-    let w = leb-true (t .w) 32 (a .1) in
-    record { few = n; narrow = w; area = le-trans (mul-le-mul-left (t .n) w) (omega arith) }
+use Rattle.format.specs.Format.{times, size, decode, lineOk, fine, sound, unmet}
+use Rattle.format.proofs.Tables.{fine-append, all-times, unmet-fine}
 
 -- line j of the m first of six
 pub record Turn (all6 : List Line) (m j : ℕ) (d : Line) : Type 0 where
@@ -40,12 +25,6 @@ turn-at all6 m j d n h k = record { inside = omega (arith, length-take-le m all6
 
 pub lines-end : (all6 : List Line) (m j : ℕ) → length all6 ≡ 6 → m ≤ 6 → m ≤ j → length (take m all6) ≤ j
 lines-end all6 m j n h k = omega (arith, length-take-le m all6 (omega arith))
-
-pub length-mapped : {A B : Type 0} (f : A → B) (l : List A) (n : ℕ) → length (map f l) ≡ n → length l ≡ n
-length-mapped f l n e = sym (length-map l f) ∙ e
-
-abbrev pub none : Line
-none = record { n = 0; w = 0; lo = 0; hi = 0; other = 0; free = false }
 
 module _ (T : List Line) (j : ℕ) (d t : Line) (h : j < length T) (e : t ≡ getD T j d) where
   lines-cons : drop j T ≡ t ∷ drop (j + 1) T
@@ -102,4 +81,4 @@ unfolding times fine
 rows-done k n j row l q h = let i : n - j ≡ 0 = omega arith in rw i
 
 pub rows-unmet : (k n : ℕ) (row : List Line) (l : List ℕ) (q : ℕ) → all (unmet k) row ≡ true → fine k (times n row) (decode (times n row) l q) ≡ true
-rows-unmet k n row l q e = apart-fine k (times n row) (decode (times n row) l q) (all-times (unmet k) n row e)
+rows-unmet k n row l q e = unmet-fine k (times n row) (decode (times n row) l q) (all-times (unmet k) n row e)

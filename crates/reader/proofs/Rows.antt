@@ -15,17 +15,15 @@ use Rattle.laws.proofs.Cases.{if-yes, and-yes}
 use Rattle.format.specs.Reach.{fieldsOf}
 use Rattle.format.proofs.Leaves.{reached}
 use Rattle.format.specs.declared.Line.{Line}
-use Rattle.format.specs.Format.{times, size, need, decode, flat}
+use Rattle.format.specs.Format.{times, size, need, decode, flat, sound}
 use Rattle.format.proofs.Tables.{flat-append, length-flat}
 use Rattle.packet.specs.declared.Form.{Form}
 use Rattle.packet.specs.declared.Form.the-variants.{Frequencies, Address, Keep, Clock, Reset, Factory, Drill, Text, Command, Hold, Raw, Unknown}
 use Rattle.packet.specs.declared.Sort.{Sort}
-use Rattle.packet.specs.declared.Sort.the-variants as sort
 use Rattle.packet.specs.Table.{rowOf, code}
 use Rattle.packet.specs.Content.{numbersIn}
 use Rattle.packet.specs.Reading.{partAt, numbersAt, zeros, padded}
 use Rattle.packet.proofs.Sizes.{countSize, count-size}
-use Rattle.reader.specs.Sound.{sound}
 
 pub record Good (f : Form) : Type 0 where
   pub before : all sound (rowOf f .before) ≡ true

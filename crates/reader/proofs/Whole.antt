@@ -8,22 +8,22 @@ use native.Mathlib.Omega.{arith}
 use lib.Dec.{leb, ltb, eqb}
 use lib.ListN.{length}
 use borrow.Author.Tests.{lt-leb, le-leb, ne-eqb, eq-eqb, leb-true, eqb-true, not-false}
-use Rattle.laws.specs.Bits.{at, bits}
+use Rattle.laws.specs.Bits.{bits}
 use Rattle.laws.specs.Scan.{all}
 use Rattle.laws.specs.Refusals.{first}
 use Rattle.laws.proofs.Bits.{at-small}
 use Rattle.laws.proofs.Cases.{and-both}
-use Rattle.laws.proofs.Passed.{first-no}
 use Rattle.format.specs.declared.Line.{Line}
 use Rattle.format.specs.Format.{times, size, decode, fine}
-use Rattle.format.proofs.Tables.{fine-append, size-times, apart-fine}
+use Rattle.format.proofs.Tables.{fine-append, size-times, unmet-fine}
 use Rattle.packet.specs.declared.Form.{Form}
 use Rattle.packet.specs.declared.Sort.{Sort}
 use Rattle.packet.specs.declared.Sort.the-variants as sort
 use Rattle.packet.specs.Table.{Row, rowOf, countLine, countIn, contentLines, code, ending, packet}
-use Rattle.packet.specs.Reading.{kindIn, lengthIn, codesIn, formIn, contentAt, contentSize, countOf, partAt, tableOf, valuesIn, sizeBad, lengthBad, isUnknown, fieldBad, readAnswer, textAnswer, openedBy, refusedAs, partBy}
+use Rattle.packet.specs.Reading.{kindIn, lengthIn, codesIn, formIn, contentAt, contentSize, countOf, partAt, tableOf, valuesIn, sizeBad, lengthBad, isUnknown, fieldBad, readAnswer, textAnswer}
 use Rattle.packet.proofs.Forms.{below-not}
 use Rattle.packet.proofs.Sizes.{count-size, content-size}
+use Rattle.laws.proofs.Refusals.{not-due}
 
 -- ---- answer 20
 pub short : (b : List ℕ) → length b < 77 → true ≡ sizeBad b
@@ -71,9 +71,9 @@ unfolding countOf
 count-small b h = count-by (rowOf (formIn b)) b (contentAt b) (contentSize b) (omega arith)
 
 -- ---- a content, and a packet
-count-apart : (a : ℕ) (s : Sort) (k : ℕ) (l : List ℕ) (p : ℕ) → (a ≡ 26 → ⊥) → fine a (countLine s k) (decode (countLine s k) l p) ≡ true
+count-unmet : (a : ℕ) (s : Sort) (k : ℕ) (l : List ℕ) (p : ℕ) → (a ≡ 26 → ⊥) → fine a (countLine s k) (decode (countLine s k) l p) ≡ true
 unfolding all
-count-apart a s k l p h = apart-fine a (countLine s k) (decode (countLine s k) l p) (go s)
+count-unmet a s k l p h = unmet-fine a (countLine s k) (decode (countLine s k) l p) (go s)
   where
     use-ne : eqb 26 a ≡ false
     use-ne = ne-eqb 26 a (λ e. h (sym e))
@@ -93,7 +93,7 @@ content-parts a r k l q h =
     let M = times k (r .each) in
     let p1 : q + size (r .before) + size L ≡ q + (size (r .before) + size (countLine (r .sort) 0)) = omega (arith, count-size (r .sort) k, count-size (r .sort) 0) in
     let p2 : q + (size (r .before) + size (countLine (r .sort) 0)) + size M ≡ q + (size (r .before) + size (countLine (r .sort) 0)) + k * size (r .each) = ap (λ (n : ℕ). q + (size (r .before) + size (countLine (r .sort) 0)) + n) (size-times k (r .each)) in
-    rw (fine-append a (r .before) (L ++ (M ++ r .after)) l q, fine-append a L (M ++ r .after) l (q + size (r .before)), count-apart a (r .sort) k l (q + size (r .before)) h, p1, fine-append a M (r .after) l (q + (size (r .before) + size (countLine (r .sort) 0))), p2)
+    rw (fine-append a (r .before) (L ++ (M ++ r .after)) l q, fine-append a L (M ++ r .after) l (q + size (r .before)), count-unmet a (r .sort) k l (q + size (r .before)) h, p1, fine-append a M (r .after) l (q + (size (r .before) + size (countLine (r .sort) 0))), p2)
 
 pub packet-parts : (a : ℕ) (b : List ℕ) → (a ≡ 26 → ⊥) → size (contentLines (rowOf (formIn b)) (countOf b)) ≡ 8 * contentSize b
     → fine a (tableOf b) (valuesIn b)
@@ -135,15 +135,7 @@ row-fits k w h g = le-trans (mul-le-mul-left k g) (omega arith)
 -- ---- an accepted packet, and a refused one
 pub no-size : (b : List ℕ) → readAnswer b ≡ 0 → sizeBad b ≡ false
 unfolding readAnswer
-no-size b e = first-no (sizeBad b) 20 _ (λ h. omega arith) e .0
-
-pub not-opened : (a : ℕ) (b : List ℕ) → (a ≡ 0 → ⊥) → openedBy a b ≡ refusedAs a
-not-opened zero b h = absurd (h refl)
-not-opened (suc a) b h = refl
-
-pub no-part : (a from k : ℕ) (b : List ℕ) → (a ≡ 0 → ⊥) → partBy a from k b ≡ []
-no-part zero from k b h = absurd (h refl)
-no-part (suc a) from k b h = refl
+no-size b e = not-due (sizeBad b) 20 _ (λ h. omega arith) e .0
 
 -- ---- one more case of 27 after the reader's
 abbrev pub later : ℕ → Bool → ℕ

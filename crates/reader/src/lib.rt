@@ -4,11 +4,9 @@ mod parts;
 mod tests;
 
 ghost use mathlib.Core.Path.{_≡_};
-ghost use mathlib.Core.Bool.{_||_, not};
-ghost use lib.Dec.{eqb};
 ghost use lib.ListN.{length};
 ghost use Prim.Native.Nat.{_≤_};
-ghost use Rattle.packet.specs.Reading.{opened, openedBy, refusedAs, noFields, fieldsOf, readAnswer, textAnswer, textOf, bodyOf};
+ghost use Rattle.packet.specs.Reading.{opened, refusedAs, noFields, fieldsOf, textAnswer, textOf, bodyOf};
 use packet::Content;
 use packet::Fields;
 use packet::Opened;
@@ -109,7 +107,7 @@ pub fn text(packet: &[u8]) -> &[u8]
     if text_answer(packet) == 0 {
         let from = 23 + 12 * parts::codes_count(packet);
         let k = parts::text_length(packet);
-        parts::part(packet, from, k)
+        format::part(packet, from, k)
     } else {
         &packet[0..0]
     }
@@ -122,7 +120,7 @@ pub fn body(packet: &[u8]) -> &[u8]
     if tests::answer(packet) == 0 {
         let from = 3 + 12 * parts::codes_count(packet) + parts::lead(packet) / 8;
         let k = parts::bytes_count(packet);
-        parts::part(packet, from, k)
+        format::part(packet, from, k)
     } else {
         &packet[0..0]
     }

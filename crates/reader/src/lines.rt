@@ -1,13 +1,11 @@
 // Lines of a table over the bits of a packet: their size, and whether any is due an answer.
 ghost use mathlib.Core.Path.{_≡_};
-ghost use mathlib.Core.Bool.{true, false, cond};
-ghost use Prim.Native.Nat.{_+_, _*_, _<_, _≤_};
+ghost use mathlib.Core.Bool.{true, false};
+ghost use Prim.Native.Nat.{_*_, _<_, _≤_};
 ghost use lib.ListN.{take};
-ghost use lib.Dec.{eqb};
 ghost use Rattle.laws.specs.Bits.{at, run, bits};
 ghost use Rattle.laws.specs.Scan.{all};
-ghost use Rattle.format.specs.Format.{times, size, decode, lineOk, fine};
-ghost use Rattle.reader.specs.Sound.{sound, unmet};
+ghost use Rattle.format.specs.Format.{times, size, decode, lineOk, fine, sound, unmet};
 use format::Line;
 use packet::Lines;
 

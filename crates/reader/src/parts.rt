@@ -2,13 +2,13 @@
 ghost use mathlib.Core.Path.{_≡_};
 ghost use mathlib.Core.Bool.{cond};
 ghost use mathlib.Core.List.{[], _++_};
-ghost use Prim.Native.Nat.{_+_, _-_, _*_, _/_, _<_, _≤_};
-ghost use lib.ListN.{length, take, drop};
+ghost use Prim.Native.Nat.{_+_, _-_, _*_, _<_, _≤_};
+ghost use lib.ListN.{length, drop};
 ghost use lib.Seq.{sets};
 ghost use Rattle.packet.specs.declared.Form.the-variants as form;
 ghost use Rattle.laws.specs.Bits.{at, run, bits};
 ghost use Rattle.format.specs.Format.{times, size};
-ghost use Rattle.packet.specs.Table.{rowOf, countIn, code};
+ghost use Rattle.packet.specs.Table.{rowOf, countIn};
 ghost use Rattle.packet.specs.Content.{contentOf, numbersIn};
 ghost use Rattle.packet.specs.Reading.{kindIn, codesIn, formIn, contentSize, countOf, partAt, numbersAt, contentIn, digitsIn, zeros, padded, codesOf, bodyIn, hasEntries};
 use crate::lines;
@@ -51,22 +51,6 @@ pub(crate) fn zeros272() -> [u8; 272]
     ensures { λ r. ⌜ r ≡ zeros 272 ⌝ }
 {
     [0u8; 272]
-}
-
-// k bytes of the packet from a byte on; as many as there are.
-pub(crate) fn part(b: &[u8], from: usize, k: usize) -> &[u8]
-    ensures { λ r. ⌜ now r ≡ take k (drop from (now (b .entry))) ⌝ }
-{
-    let p = b.len();
-    if p <= from {
-        return &b[0..0];
-    }
-    if k < p - from {
-        let e = from + k;
-        &b[from..e]
-    } else {
-        &b[from..p]
-    }
 }
 
 // ---- heading

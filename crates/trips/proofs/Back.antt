@@ -2,344 +2,40 @@
 use mathlib.Core.Path.{_≡_, refl, sym, ap, ap₂, _∙_}
 use mathlib.Core.Logic.{_⊎_, inl, inr}
 use mathlib.Core.List.{List, [], _∷_, _++_, append-nil, append-assoc}
-use mathlib.Core.Bool.{Bool, true, false, not, _&&_, _||_, cond, true≢false, or-true}
+use mathlib.Core.Bool.{Bool, true, false, not, _&&_, _||_, cond, true≢false}
 use Prim.Native.Nat.{ℕ, zero, suc, _+_, _*_, _-_, _/_, _≤_}
 use native.Mathlib.Nat.{zero-mul}
 use native.Mathlib.Omega.{arith}
-use lib.ListN.{length, take, drop, length-append, length-drop, length-replicate, take-append-drop}
-use lib.Seq.{length-take-le, take-all, take-at, drop-at}
-use lib.Dec.{leb, eqb}
-use borrow.Author.Tests.{leb-true, eqb-true, not-false, le-leb, le-ltb, eq-eqb, ne-eqb}
+use lib.ListN.{length, take, drop, length-append, length-drop, take-append-drop}
+use lib.Seq.{length-take-le, take-all, drop-at}
+use borrow.Author.Tests.{eqb-true, le-leb, le-ltb, eq-eqb, ne-eqb}
 use Rattle.laws.specs.Bits.{at, run, bits, bytes}
 use Rattle.laws.specs.Scan.{all}
-use Rattle.laws.specs.Refusals.{first}
 use Rattle.laws.proofs.Bits.{Under, at-small}
-use Rattle.laws.proofs.Cases.{and-left, and-both, if-yes, if-no, and-yes, and-no}
-use Rattle.laws.proofs.Passed.{first-no, no-case}
-use Rattle.laws.proofs.Refusals.{pass, stop}
-use Rattle.laws.proofs.Writes.{from-front}
+use Rattle.laws.proofs.Cases.{if-yes, if-no, and-yes}
+use Rattle.laws.proofs.Refusals.{pass, stop, none-left}
 use Rattle.format.specs.declared.Line.{Line}
-use Rattle.format.specs.Format.{times, just, octets, size, encode, decode, need, fill, flat, inside, lineOk, fine}
-use Rattle.format.proofs.Tables.{apart, apart-fine, all-times, settled, fill-flat, length-flat, need-times, fine-append}
+use Rattle.format.specs.Format.{times, octets, size, encode, decode, need, fill, flat, inside, fine, unmet}
+use Rattle.format.proofs.Tables.{unmet-fine, all-times, settled, fill-flat, length-flat, need-times, fine-append}
 use Rattle.format.proofs.Round.{write-read}
 use Rattle.packet.specs.declared.Form.{Form}
-use Rattle.packet.specs.declared.Form.the-variants.{Frequencies, Address, Keep, Clock, Reset, Factory, Drill, Text, Command, Hold, Raw, Unknown}
-use Rattle.packet.specs.declared.Sort.{Sort}
-use Rattle.packet.specs.declared.Sort.the-variants as sort
-use Rattle.packet.specs.declared.Content.the-variants as content
+use Rattle.packet.specs.declared.Form.the-variants.{Frequencies}
 use Rattle.packet.specs.declared.Fields.{Fields}
 use Rattle.packet.specs.declared.Opened.{Opened}
-use Rattle.packet.specs.Table.{formOf, typeOf, Row, rowOf, countLine, countIn, contentLines, code, ending, packet}
-use Rattle.packet.specs.Content.{contentOf, formFor, numbersOf, numbersIn, countFor, noSuchDay}
-use Rattle.packet.specs.Reading.{kindIn, lengthIn, codesIn, formIn, contentAt, contentSize, countOf, partAt, tableOf, valuesIn, numbersAt, frontIn, bodyIn, backIn, contentIn, digitsIn, zeros, padded, codesOf, hasEntries, fieldsOf, sizeBad, lengthBad, isUnknown, readAnswer, openedBy, opened, partBy, bodyOf}
+use Rattle.packet.specs.Table.{formOf, typeOf, rowOf, countLine, contentLines, code, ending, packet}
+use Rattle.packet.specs.Content.{formFor, numbersOf, numbersIn, countFor, noSuchDay}
+use Rattle.packet.specs.Reading.{kindIn, codesIn, formIn, contentAt, contentSize, countOf, partAt, tableOf, valuesIn, numbersAt, frontIn, bodyIn, backIn, contentIn, digitsIn, zeros, padded, codesOf, hasEntries, fieldsOf, isUnknown, readAnswer, openedBy, opened, partBy, bodyOf}
 use Rattle.packet.specs.Writing.{rowFor, digitsBefore, digitsAfter, frontFor, backFor, bodyFor, sizeFor, tableFor, numbersFor, valuesFor, bytesFor, lentBad, countBad, digitBad, otherType, bodyLost, digitsLost, notTaken, writtenAnswer, outputBy, outputOf}
 use Rattle.packet.proofs.Forms as forms
 use Rattle.packet.proofs.Sizes.{content-size}
 use Rattle.trips.proofs.Parts as parts
-use Rattle.trips.proofs.Fitting as fitting
 use Rattle.trips.proofs.Contents as contents
 use Rattle.trips.proofs.Octets.{octets-at, run-bytes}
-use Rattle.trips.proofs.There.{octet-size}
-
--- ---- a clause a kind
--- a content of a known kind is of that kind
-pub form-of : (f : Form) (xs : List ℕ) (k : ℕ) → isUnknown f ≡ false → formFor (contentOf f xs k) ≡ f
-form-of Frequencies xs k h = refl
-form-of Address xs k h = refl
-form-of Keep xs k h = refl
-form-of Clock xs k h = refl
-form-of Reset xs k h = refl
-form-of Factory xs k h = refl
-form-of Drill xs k h = refl
-form-of Text xs k h = refl
-form-of Command xs k h = refl
-form-of Hold xs k h = refl
-form-of Raw xs k h = refl
-form-of Unknown xs k h = absurd (true≢false h)
-
--- its numbers are the first of what was read
-numbers-back : (f : Form) (xs : List ℕ) (k : ℕ) → numbersIn f ≤ length xs → numbersOf (contentOf f xs k) ≡ take (numbersIn f) xs
-numbers-back Frequencies xs k h = refl
-numbers-back Address xs k h = refl
-numbers-back Keep [] k h = absurd (omega arith)
-numbers-back Keep (x ∷ []) k h = absurd (omega arith)
-numbers-back Keep (x ∷ y ∷ xs) k h = refl
-numbers-back Clock [] k h = absurd (omega arith)
-numbers-back Clock (a ∷ []) k h = absurd (omega arith)
-numbers-back Clock (a ∷ b ∷ []) k h = absurd (omega arith)
-numbers-back Clock (a ∷ b ∷ c ∷ []) k h = absurd (omega arith)
-numbers-back Clock (a ∷ b ∷ c ∷ d ∷ []) k h = absurd (omega arith)
-numbers-back Clock (a ∷ b ∷ c ∷ d ∷ e ∷ []) k h = absurd (omega arith)
-numbers-back Clock (a ∷ b ∷ c ∷ d ∷ e ∷ g ∷ xs) k h = refl
-numbers-back Reset [] k h = absurd (omega arith)
-numbers-back Reset (x ∷ xs) k h = refl
-numbers-back Factory xs k h = refl
-numbers-back Drill [] k h = absurd (omega arith)
-numbers-back Drill (x ∷ xs) k h = refl
-numbers-back Text [] k h = absurd (omega arith)
-numbers-back Text (x ∷ []) k h = absurd (omega arith)
-numbers-back Text (x ∷ y ∷ xs) k h = refl
-numbers-back Command xs k h = refl
-numbers-back Hold [] k h = absurd (omega arith)
-numbers-back Hold (x ∷ xs) k h = refl
-numbers-back Raw xs k h = refl
-numbers-back Unknown xs k h = refl
-
--- its count is the one that was read, and that of what is lent
-count-for : (f : Form) (xs body l : List ℕ) (q m k : ℕ) → isUnknown f ≡ false → k ≡ countIn (rowOf f) l q m → length body ≡ k * need (rowOf f .each) → countFor (contentOf f xs k) body ≡ k
-unfolding need
-count-for Frequencies xs body l q m k h e n = refl
-count-for Address xs body l q m k h e n = refl
-count-for Keep xs body l q m k h e n = sym e
-count-for Clock xs body l q m k h e n = sym e
-count-for Reset xs body l q m k h e n = sym e
-count-for Factory xs body l q m k h e n = sym e
-count-for Drill xs body l q m k h e n = sym e
-count-for Text xs body l q m k h e n = refl
-count-for Command xs body l q m k h e n = refl
-count-for Hold xs body l q m k h e n = sym e
-count-for Raw xs body l q m k h e n = omega (arith, n)
-count-for Unknown xs body l q m k h e n = absurd (true≢false h)
-
-numbers-few : (f : Form) → numbersIn f ≤ need (rowOf f .before)
-unfolding need
-numbers-few Frequencies = omega arith
-numbers-few Address = omega arith
-numbers-few Keep = omega arith
-numbers-few Clock = omega arith
-numbers-few Reset = omega arith
-numbers-few Factory = omega arith
-numbers-few Drill = omega arith
-numbers-few Text = omega arith
-numbers-few Command = omega arith
-numbers-few Hold = omega arith
-numbers-few Raw = omega arith
-numbers-few Unknown = omega arith
-
--- no kind has digits both before its bytes and after them, and none more than 35
-places : (f : Form) → ((need (rowOf f .before) ≡ numbersIn f) ⊎ (need (rowOf f .after) ≡ 0)) × (need (rowOf f .before) - numbersIn f + need (rowOf f .after) ≤ 35)
-unfolding need
-places Frequencies = (inl refl, omega arith)
-places Address = (inl refl, omega arith)
-places Keep = (inl refl, omega arith)
-places Clock = (inl refl, omega arith)
-places Reset = (inr refl, omega arith)
-places Factory = (inl refl, omega arith)
-places Drill = (inr refl, omega arith)
-places Text = (inr refl, omega arith)
-places Command = (inl refl, omega arith)
-places Hold = (inl refl, omega arith)
-places Raw = (inl refl, omega arith)
-places Unknown = (inl refl, omega arith)
-
--- digits without a fault of 25 are at most 9
-front-digits : (f : Form) (l : List ℕ) (q : ℕ) → fine 25 (rowOf f .before) (decode (rowOf f .before) l q) ≡ true → inside 0 9 (drop (numbersIn f) (flat (rowOf f .before) (decode (rowOf f .before) l q))) ≡ true
-unfolding fine decode flat run inside
-front-digits Frequencies l q h = refl
-front-digits Address l q h = refl
-front-digits Keep l q h = refl
-front-digits Clock l q h = refl
-front-digits Reset l q h = and-left _ true h
-front-digits Factory l q h = refl
-front-digits Drill l q h = and-left _ true h
-front-digits Text l q h = and-left _ true h
-front-digits Command l q h = refl
-front-digits Hold l q h = refl
-front-digits Raw l q h = refl
-front-digits Unknown l q h = refl
-
-back-digits : (f : Form) (l : List ℕ) (q : ℕ) → fine 25 (rowOf f .after) (decode (rowOf f .after) l q) ≡ true → inside 0 9 (flat (rowOf f .after) (decode (rowOf f .after) l q)) ≡ true
-unfolding fine decode flat run inside
-back-digits Frequencies l q h = refl
-back-digits Address l q h = and-left _ true h
-back-digits Keep l q h = refl
-back-digits Clock l q h = refl
-back-digits Reset l q h = refl
-back-digits Factory l q h = refl
-back-digits Drill l q h = refl
-back-digits Text l q h = refl
-back-digits Command l q h = refl
-back-digits Hold l q h = refl
-back-digits Raw l q h = refl
-back-digits Unknown l q h = refl
-
--- only the heading and the count are due 26
-apart-26 : (f : Form) → (all (apart 26) (rowOf f .before) ≡ true) × ((all (apart 26) (rowOf f .each) ≡ true) × (all (apart 26) (rowOf f .after) ≡ true))
-unfolding all
-apart-26 Frequencies = (refl, (refl, refl))
-apart-26 Address = (refl, (refl, refl))
-apart-26 Keep = (refl, (refl, refl))
-apart-26 Clock = (refl, (refl, refl))
-apart-26 Reset = (refl, (refl, refl))
-apart-26 Factory = (refl, (refl, refl))
-apart-26 Drill = (refl, (refl, refl))
-apart-26 Text = (refl, (refl, refl))
-apart-26 Command = (refl, (refl, refl))
-apart-26 Hold = (refl, (refl, refl))
-apart-26 Raw = (refl, (refl, refl))
-apart-26 Unknown = (refl, (refl, refl))
-
--- ---- zeros after a list
-padded-is : (m : ℕ) (xs : List ℕ) → length xs ≤ m → padded m xs ≡ xs ++ drop (length xs) (zeros m)
-unfolding zeros
-padded-is m xs h = from-front xs (zeros m) (omega (arith, length-replicate {A = ℕ} m 0))
-
-take-padded : (m : ℕ) (u v : List ℕ) → length u + length v ≤ m → take (length u) (padded m (u ++ v)) ≡ u
-take-padded m u v h =
-    ap (take (length u)) (padded-is m (u ++ v) (omega (arith, length-append u v)) ∙ append-assoc u v (drop (length (u ++ v)) (zeros m))) ∙ take-at u (v ++ drop (length (u ++ v)) (zeros m)) (length u) refl
-
-drop-zeros : (n m : ℕ) → inside 0 0 (drop m (zeros n)) ≡ true
-unfolding zeros inside
-drop-zeros zero zero = refl
-drop-zeros (suc n) zero = drop-zeros n zero
-drop-zeros zero (suc m) = refl
-drop-zeros (suc n) (suc m) = drop-zeros n m
-
-inside-append : (lo hi : ℕ) (u v : List ℕ) → inside lo hi u ≡ true → inside lo hi v ≡ true → inside lo hi (u ++ v) ≡ true
-unfolding inside
-inside-append lo hi [] v a b = b
-inside-append lo hi (x ∷ u) v a b =
-    let h = and-both (leb lo x && leb x hi) (inside lo hi u) a in
-    and-yes _ (h .0) ∙ inside-append lo hi u v (h .1) b
-
-wider : (v : List ℕ) → inside 0 0 v ≡ true → inside 0 9 v ≡ true
-unfolding inside
-wider [] h = refl
-wider (x ∷ v) h =
-    let a = and-both (leb 0 x && leb x 0) (inside 0 0 v) h in
-    let b = and-both (leb 0 x) (leb x 0) (a .0) in
-    rw (b .0, le-leb x 9 (omega (arith, leb-true x 0 (b .1)))) (wider v (a .1))
-
--- ---- what a reader's 0 says
-pub record Accepted (b : List ℕ) : Type 0 where
-  pub least : 77 + 12 * codesIn b ≤ length b
-  pub most : length b ≤ 250
-  pub field : length b ≡ lengthIn b + 2
-  pub known : isUnknown (formIn b) ≡ false
-  pub right : size (contentLines (rowOf (formIn b)) (countOf b)) ≡ 8 * contentSize b
-  pub c24 : fine 24 (tableOf b) (valuesIn b) ≡ true
-  pub c25 : fine 25 (tableOf b) (valuesIn b) ≡ true
-  pub c27 : fine 27 (tableOf b) (valuesIn b) ≡ true
-  pub day : noSuchDay (contentIn b) ≡ false
-
-pub accepted : (b : List ℕ) → readAnswer b ≡ 0 → Accepted b
-unfolding readAnswer sizeBad lengthBad
-accepted b e =
-    let p = first-no _ 20 _ (λ h. omega arith) e in
-    let q = first-no (isUnknown (formIn b)) 23 _ (λ h. omega arith) (p .1) in
-    let r = first-no _ 26 _ (λ h. omega arith) (q .1) in
-    let s = first-no _ 24 _ (λ h. omega arith) (r .1) in
-    let t = first-no _ 25 _ (λ h. omega arith) (s .1) in
-    let w = first-no _ 27 _ (λ h. omega arith) (t .1) in
-    let p1 = and-both (leb 77 (length b) && leb (length b) 250) _ (not-false _ (p .0)) in
-    let p2 = and-both (leb 77 (length b)) (leb (length b) 250) (p1 .0) in
-    let p3 = and-both (eqb (length b) (lengthIn b + 2)) (leb (77 + 12 * codesIn b) (length b)) (p1 .1) in
-    let w1 = fitting.or-both (not (fine 27 (tableOf b) (valuesIn b))) (noSuchDay (contentIn b)) (w .0) in
-    record {
-      least = leb-true _ _ (p3 .1);
-      most = leb-true _ _ (p2 .1);
-      field = eqb-true _ _ (p3 .0);
-      known = q .0;
-      right = eqb-true _ _ (not-false _ (r .0));
-      c24 = not-false _ (s .0);
-      c25 = not-false _ (t .0);
-      c27 = not-false _ (w1 .0);
-      day = w1 .1;
-    }
-
-nil-of : (l : List ℕ) → length l ≡ 0 → l ≡ []
-nil-of [] h = refl
-nil-of (x ∷ l) h = absurd (omega arith)
-
-of-count : (b : List ℕ) → countOf b ≡ countIn (rowOf (formIn b)) (bits b) (contentAt b) (contentSize b)
-unfolding countOf
-of-count b = refl
-
-code-26 : all (apart 26) code ≡ true
-unfolding all
-code-26 = refl
-
-ending-26 : all (apart 26) ending ≡ true
-unfolding all
-ending-26 = refl
-
-same-26 : (w x : ℕ) (y : ℕ) → y ≡ x → lineOk 26 (just w x) (y ∷ []) ≡ true
-unfolding inside
-same-26 w x y e = rw (e, le-leb x x (omega arith))
-
-heading : (t p n : ℕ) (l : List ℕ) (R : List Line) → at l 0 5 ≡ t → at l 5 11 ≡ p → at l 16 8 ≡ n → fine 26 R (decode R l 24) ≡ true → fine 26 (just 5 t ∷ just 11 p ∷ just 8 n ∷ R) (decode (just 5 t ∷ just 11 p ∷ just 8 n ∷ R) l 0) ≡ true
-unfolding fine decode run
-heading t p n l R a b c e = and-yes _ (same-26 5 t (at l 0 5) a) ∙ and-yes _ (same-26 11 p (at l 5 11) b) ∙ and-yes _ (same-26 8 n (at l 16 8) c) ∙ e
-
-count-26 : (r : Row) (l : List ℕ) (q m k : ℕ) → k ≡ countIn r l q m → fine 26 (countLine (r .sort) k) (decode (countLine (r .sort) k) l (q + size (r .before))) ≡ true
-unfolding fine decode run
-count-26 r l q m k h = go (r .sort) refl
-  where
-    go : (s : Sort) → r .sort ≡ s → fine 26 (countLine (r .sort) k) (decode (countLine (r .sort) k) l (q + size (r .before))) ≡ true
-    go sort.Fixed e = rw e
-    go sort.Counted e = rw e (and-yes true (same-26 8 k (at l (q + size (r .before)) 8) (sym (rw e at h))))
-    go sort.Raw e = rw e
-    go sort.Unknown e = rw e
-
-settled-table : (b : List ℕ) → all settled (tableOf b) ≡ true
-unfolding tableOf all
-settled-table b =
-    let g = contents.fair (formIn b) in
-    let r = rowOf (formIn b) in
-    let j : (w x : ℕ) → settled (just w x) ≡ true = λ w x. ap (λ (t : Bool). t && true) (eq-eqb x x refl) in
-    parts.all-packet settled r (kindIn b) (length b) (codesIn b) (countOf b) (j 5 (kindIn b)) (j 11 (length b - 2)) (j 8 (codesIn b)) (parts.all-count settled (r .sort) (countOf b) (j 8 (countOf b))) refl refl (g .settled1) (g .settled2) (g .settled3)
-
-table-25 : (b : List ℕ) → fine 25 (tableOf b) (valuesIn b) ≡ true → fine 25 (packet (rowOf (formIn b)) (kindIn b) (length b) (codesIn b) (countOf b)) (decode (packet (rowOf (formIn b)) (kindIn b) (length b) (codesIn b) (countOf b)) (bits b) 0) ≡ true
-unfolding tableOf
-table-25 b e = e
-
-digits-of : (b : List ℕ) → inside 0 9 (padded 35 (digitsIn b)) ≡ true → inside 0 9 (fieldsOf b .digits) ≡ true
-unfolding fieldsOf
-digits-of b e = e
-
-later-true : (x y : Bool) → y ≡ true → (x || y) ≡ true
-later-true x y e = ap (λ (t : Bool). x || t) e ∙ or-true x
-
-only-none : (t n : ℕ) → (t ≡ 1 → n ≡ 0) → (eqb t 1 && not (eqb n 0)) ≡ false
-only-none t n h = go (eqb t 1) refl
-  where
-    go : (x : Bool) → eqb t 1 ≡ x → (eqb t 1 && not (eqb n 0)) ≡ false
-    go true e = ap₂ (λ (x y : Bool). x && not y) e (eq-eqb n 0 (h (eqb-true t 1 e)))
-    go false e = and-no _ e
-
-lent-right : (r : Row) (b : List ℕ) (k : ℕ) (body : List ℕ) (q m : ℕ) → k ≡ countIn r (bits b) q m → length body ≡ k * need (r .each) → lentBad (r .sort) k (need (r .each)) body ≡ false
-lent-right r b k body q m h n = go (r .sort) refl
-  where
-    go : (s : Sort) → r .sort ≡ s → lentBad (r .sort) k (need (r .each)) body ≡ false
-    go sort.Fixed e = rw e
-    go sort.Counted e =
-        let c : k ≡ at (bits b) (q + size (r .before)) 8 = rw e at h in
-        rw e (ap not (ap₂ _&&_ (le-leb k 255 (omega (arith, c, at-small b (q + size (r .before)) 8 8 (omega arith)))) (eq-eqb (length body) (k * need (r .each)) n)))
-    go sort.Raw e = rw e
-    go sort.Unknown e = rw e
-
-body-right : (r : Row) (b : List ℕ) (k : ℕ) (body : List ℕ) (q m : ℕ) → k ≡ countIn r (bits b) q m → length body ≡ k * need (r .each) → bodyLost (r .sort) body ≡ false
-body-right r b k body q m h n = go (r .sort) refl
-  where
-    go : (s : Sort) → r .sort ≡ s → bodyLost (r .sort) body ≡ false
-    go sort.Fixed e =
-        let c : k ≡ 0 = rw e at h in
-        rw e (ap not (eq-eqb (length body) 0 (n ∙ ap (λ (x : ℕ). x * need (r .each)) c ∙ zero-mul (need (r .each)))))
-    go sort.Counted e = rw e
-    go sort.Raw e = rw e
-    go sort.Unknown e = rw e
-
-entries-few : (f : Form) (k : ℕ) (body : List ℕ) (m : ℕ) → f ≡ Frequencies → size (contentLines (rowOf f) k) ≡ 8 * m → length body ≡ k * need (rowOf f .each) → m ≤ 173 → length body + 0 ≤ 272
-unfolding size need partAt
-entries-few f k body m e h n l =
-    let s : size (contentLines (rowOf Frequencies) k) ≡ 8 + k * 40 + 0 = content-size (rowOf Frequencies) k in
-    let s1 : size (contentLines (rowOf f) k) ≡ 8 + k * 40 + 0 = ap (λ (g : Form). size (contentLines (rowOf g) k)) e ∙ s in
-    let n1 : length body ≡ k * 8 = n ∙ ap (λ (g : Form). k * need (rowOf g .each)) e in
-    omega arith
-
-entries-count : (f : Form) (xs : List ℕ) (k : ℕ) (body : List ℕ) → f ≡ Frequencies → length body ≡ k * need (rowOf f .each) → countFor (contentOf f xs k) [] * 8 ≡ length body
-unfolding need
-entries-count f xs k body e n = ap (λ (g : Form). countFor (contentOf g xs k) [] * 8) e ∙ sym (n ∙ ap (λ (g : Form). k * need (rowOf g .each)) e)
+use Rattle.trips.proofs.Taken.{octet-size}
+use Rattle.trips.proofs.Padded.{padded-is, take-padded, rest-zeros, inside-append, wider}
+use Rattle.trips.proofs.EachKind.{form-of, numbers-back, count-for, numbers-few, places, front-digits, back-digits, unmet-26}
+use Rattle.trips.proofs.Accepted.{Accepted, accepted, of-count, code-26, ending-26, heading, count-26, settled-table, table-25, digits-of, later-true, only-none, lent-right, body-right, entries-few, entries-count}
+use Rattle.trips.proofs.Fitting.{nil-of}
 
 module _ (b : List ℕ) (z : Accepted b) where
   form-is : formFor (contentIn b) ≡ formIn b
@@ -417,7 +113,7 @@ module _ (b : List ℕ) (z : Accepted b) where
   digits-over =
       ap (λ (xs : List ℕ). inside 0 0 (drop (digitsBefore (contentIn b) + digitsAfter (contentIn b)) xs)) digits-split
       ∙ ap (inside 0 0) (drop-at (digitsIn b) (drop (length (digitsIn b)) (zeros 35)) (digitsBefore (contentIn b) + digitsAfter (contentIn b)) digits-long)
-      ∙ drop-zeros 35 (length (digitsIn b))
+      ∙ rest-zeros 35 (length (digitsIn b))
 
   -- ---- what follows the content
   end-at : 24 + 96 * codesIn b + size (contentLines (rowOf (formIn b)) (countOf b)) ≡ 8 * (length b - 74)
@@ -465,20 +161,20 @@ module _ (b : List ℕ) (z : Accepted b) where
       let k = countOf b in
       let l = bits b in
       let n = codesIn b in
-      let a26 = apart-26 (formIn b) in
+      let a26 = unmet-26 (formIn b) in
       let L = countLine (g .sort) k in
       let M = times k (g .each) in
       let K = g .before ++ (L ++ (M ++ g .after)) in
       let p0 = 24 + size (times n code) in
       let c : fine 26 L (decode L l (p0 + size (g .before))) ≡ true = ap (λ (x : ℕ). fine 26 L (decode L l (24 + x + size (g .before)))) (parts.size-code n) ∙ count-26 g l (contentAt b) (contentSize b) k (of-count b) in
       heading (kindIn b) (length b - 2) n l (times n code ++ (K ++ ending)) refl (omega (arith, z .field)) refl
-      (fine-append 26 (times n code) (K ++ ending) l 24 ∙ and-yes _ (apart-fine 26 (times n code) _ (all-times (apart 26) n code code-26))
+      (fine-append 26 (times n code) (K ++ ending) l 24 ∙ and-yes _ (unmet-fine 26 (times n code) _ (all-times (unmet 26) n code code-26))
       ∙ fine-append 26 K ending l p0
       ∙ ap₂ _&&_
-      (fine-append 26 (g .before) (L ++ (M ++ g .after)) l p0 ∙ and-yes _ (apart-fine 26 (g .before) _ (a26 .0))
+      (fine-append 26 (g .before) (L ++ (M ++ g .after)) l p0 ∙ and-yes _ (unmet-fine 26 (g .before) _ (a26 .0))
       ∙ fine-append 26 L (M ++ g .after) l (p0 + size (g .before)) ∙ and-yes _ c
-      ∙ fine-append 26 M (g .after) l (p0 + size (g .before) + size L) ∙ and-yes _ (apart-fine 26 M _ (all-times (apart 26) k (g .each) (a26 .1 .0))) ∙ apart-fine 26 (g .after) _ (a26 .1 .1))
-      (apart-fine 26 ending _ ending-26))
+      ∙ fine-append 26 M (g .after) l (p0 + size (g .before) + size L) ∙ and-yes _ (unmet-fine 26 M _ (all-times (unmet 26) k (g .each) (a26 .1 .0))) ∙ unmet-fine 26 (g .after) _ (a26 .1 .1))
+      (unmet-fine 26 ending _ ending-26))
 
   -- ---- the values and the bytes
   values-is : valuesFor (fieldsOf b) (codesOf b) (bodyIn b) ≡ valuesIn b
@@ -504,7 +200,7 @@ module _ (b : List ℕ) (z : Accepted b) where
       ap (inside 0 9) digits-split
       ∙ inside-append 0 9 (digitsIn b) (drop (length (digitsIn b)) (zeros 35))
       (inside-append 0 9 (drop (numbersIn (formIn b)) (frontIn b)) (backIn b) (front-digits (formIn b) (bits b) (contentAt b) (part-25 .0)) (back-digits (formIn b) (bits b) _ (part-25 .1)))
-      (wider (drop (length (digitsIn b)) (zeros 35)) (drop-zeros 35 (length (digitsIn b))))
+      (wider (drop (length (digitsIn b)) (zeros 35)) (rest-zeros 35 (length (digitsIn b))))
 
   no-23 : isUnknown (formOf (fieldsOf b .kind)) ≡ false
   unfolding fieldsOf
@@ -538,7 +234,7 @@ module _ (b : List ℕ) (z : Accepted b) where
   answer-is room r h =
       pass 23 _ no-23 ∙ pass 26 _ no-26 ∙ pass 25 _ no-25 ∙ pass 27 _ (no-27 h)
       ∙ pass 20 _ (le-ltb 250 (sizeFor (fieldsOf b) (bodyIn b)) (omega (arith, size-is, z .most)))
-      ∙ pass 10 [] (le-ltb room (sizeFor (fieldsOf b) (bodyIn b)) (omega (arith, size-is))) ∙ no-case
+      ∙ pass 10 [] (le-ltb room (sizeFor (fieldsOf b) (bodyIn b)) (omega (arith, size-is))) ∙ none-left
 
   refused-is : (room : ℕ) → kindIn b ≡ 1 → (codesIn b ≡ 0 → ⊥) → writtenAnswer (fieldsOf b) (codesOf b) (bodyIn b) room ≡ 27
   unfolding writtenAnswer notTaken fieldsOf

@@ -1,7 +1,7 @@
 -- Values without a fault fit the bits of their lines; lists cut at the same place. Assumes nothing.
 use mathlib.Core.Path.{_≡_, refl, sym, ap, _∙_}
 use mathlib.Core.List.{List, [], _∷_, _++_}
-use mathlib.Core.Bool.{Bool, true, false, _&&_, _||_, cond, true≢false}
+use mathlib.Core.Bool.{Bool, true, false, _&&_, _||_, cond}
 use Prim.Native.Nat.{ℕ, zero, suc, _^_, _<_}
 use native.Mathlib.Omega.{arith}
 use lib.ListN.{length, take, drop, replicate, length-drop, length-replicate}
@@ -22,10 +22,9 @@ cut a a′ b b′ n e = (
   sym (drop-at a b (length a) refl) ∙ ap (drop (length a)) e ∙ drop-at a′ b′ (length a) (sym n),
 )
 
--- what a joined test that fails tells
-pub or-both : (a b : Bool) → (a || b) ≡ false → (a ≡ false) × (b ≡ false)
-or-both true b e = absurd (true≢false e)
-or-both false b e = (refl, e)
+pub nil-of : (l : List ℕ) → length l ≡ 0 → l ≡ []
+nil-of [] h = refl
+nil-of (x ∷ l) h = absurd (omega arith)
 
 -- ---- numbers in their bits
 pub inside-under : (lo hi k : ℕ) (v : List ℕ) → hi < k → inside lo hi v ≡ true → Under k v

@@ -5,3 +5,9 @@ pub mod Octets
 pub mod There
 pub mod Back
 pub mod Answers
+pub mod Padded
+pub mod Taken
+pub mod Typed
+pub mod Reread
+pub mod EachKind
+pub mod Accepted

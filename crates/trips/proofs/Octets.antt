@@ -1,12 +1,12 @@
 -- Bytes of a packet as the numbers of its lines of one byte. Assumes nothing.
 use mathlib.Core.Path.{_≡_, refl, sym, ap, ap₂, _∙_}
-use mathlib.Core.List.{List, [], _∷_, _++_, append-assoc}
-use Prim.Native.Nat.{ℕ, zero, suc, _+_, _*_, _<_, _≤_}
+use mathlib.Core.List.{List, [], _∷_, _++_}
+use Prim.Native.Nat.{ℕ, zero, suc, _+_, _*_, _≤_}
 use native.Mathlib.Omega.{arith}
 use lib.ListN.{length, take, drop, length-drop, take-append-drop}
-use lib.Seq.{length-take-le, getD-drop}
-use Rattle.laws.specs.Bits.{at, run, spread, bits, bitsOf}
-use Rattle.laws.proofs.Bits.{Under, length-spread, run-right, run-left, run-spread}
+use lib.Seq.{length-take-le}
+use Rattle.laws.specs.Bits.{at, run, bits}
+use Rattle.laws.proofs.Bits.{Under, length-spread, run-right, run-left, run-spread, spread-append, under-take, under-drop}
 use Rattle.format.specs.Format.{octets, times, decode, flat}
 use Rattle.packet.specs.Reading.{numbersAt}
 
@@ -14,23 +14,6 @@ pub octets-at : (b : List ℕ) (k p : ℕ) → numbersAt (times k (octets 1 ∷ 
 unfolding times decode flat run
 octets-at b zero p = refl
 octets-at b (suc k) p = ap (λ (l : List ℕ). at (bits b) p 8 ∷ l) (octets-at b k (p + 8))
-
-spread-append : (w : ℕ) (u v : List ℕ) → spread w (u ++ v) ≡ spread w u ++ spread w v
-unfolding spread
-spread-append w [] v = refl
-spread-append w (x ∷ u) v = ap (λ (l : List ℕ). bitsOf w x ++ l) (spread-append w u v) ∙ sym (append-assoc (bitsOf w x) (spread w u) (spread w v))
-
-pub under-take : (k n : ℕ) (l : List ℕ) → Under k l → Under k (take n l)
-under-take k zero l u i = u-zero k l u
-  where
-    u-zero : (k : ℕ) (l : List ℕ) → Under k l → 0 < k
-    u-zero k l u = omega (arith, u (length l))
-under-take k (suc n) [] u i = u i
-under-take k (suc n) (x ∷ l) u zero = u 0
-under-take k (suc n) (x ∷ l) u (suc i) = under-take k n l (λ j. u (suc j)) i
-
-pub under-drop : (k n : ℕ) (l : List ℕ) → Under k l → Under k (drop n l)
-under-drop k n l u i = rw (getD-drop n l i 0) (u (n + i))
 
 -- k bytes from byte i on
 pub run-bytes : (b : List ℕ) (i k : ℕ) → Under 256 b → i + k ≤ length b → run (bits b) (8 * i) k 8 ≡ take k (drop i b)

@@ -6,13 +6,12 @@ use Prim.Native.Nat.{ℕ, _+_, _*_, _-_}
 use native.Mathlib.Omega.{arith}
 use lib.ListN.{length}
 use lib.Dec.{eqb}
-use Rattle.laws.specs.Bits.{at, run, bits}
+use Rattle.laws.specs.Bits.{at, run}
 use Rattle.laws.specs.Scan.{all}
 use Rattle.laws.proofs.Cases.{and-left, and-right, and-yes}
 use Rattle.format.specs.declared.Line.{Line}
-use Rattle.format.specs.Format.{times, just, size, decode, need, fill, flat, lineOk, fine}
-use Rattle.format.proofs.Tables.{fine-append, fine-join, apart, apart-fine, size-append, size-times, need-append, need-times, flat-append, fill-join, length-fill, all-append, all-times}
-use Rattle.packet.specs.declared.Form.the-variants.{Raw, Unknown}
+use Rattle.format.specs.Format.{times, just, size, decode, need, fill, flat, lineOk, fine, unmet}
+use Rattle.format.proofs.Tables.{fine-append, fine-join, unmet-fine, size-append, size-times, need-append, need-times, flat-append, fill-join, length-fill, all-append, all-times}
 use Rattle.packet.specs.declared.Sort.{Sort}
 use Rattle.packet.specs.declared.Sort.the-variants as sort
 use Rattle.packet.specs.Table.{Row, countLine, contentLines, code, ending, packet}
@@ -140,7 +139,7 @@ packet-26 r t p n k l e =
 
 -- ---- tests of values, part by part
 pub content-fine : (a : ℕ) (r : Row) (k : ℕ) (x y z : List ℕ) → length x ≡ need (r .before) → length y ≡ k * need (r .each)
-    → fine a (r .before) (fill (r .before) x) ≡ true → all (apart a) (countLine (r .sort) k) ≡ true → fine a (times k (r .each)) (fill (times k (r .each)) y) ≡ true → fine a (r .after) (fill (r .after) z) ≡ true
+    → fine a (r .before) (fill (r .before) x) ≡ true → all (unmet a) (countLine (r .sort) k) ≡ true → fine a (times k (r .each)) (fill (times k (r .each)) y) ≡ true → fine a (r .after) (fill (r .after) z) ≡ true
     → fine a (contentLines r k) (fill (contentLines r k) (x ++ (y ++ z))) ≡ true
 unfolding contentLines
 content-fine a r k x y z hx hy f1 f2 f3 f4 =
@@ -148,7 +147,7 @@ content-fine a r k x y z hx hy f1 f2 f3 f4 =
     let M = times k (r .each) in
     ap (fine a (contentLines r k)) (content-fill r k x y z hx hy)
     ∙ fine-join a (r .before) (L ++ (M ++ r .after)) (fill (r .before) x) _ (length-fill (r .before) x) ∙ and-yes _ f1
-    ∙ fine-join a L (M ++ r .after) (fill L []) _ (length-fill L []) ∙ and-yes _ (apart-fine a L (fill L []) f2)
+    ∙ fine-join a L (M ++ r .after) (fill L []) _ (length-fill L []) ∙ and-yes _ (unmet-fine a L (fill L []) f2)
     ∙ fine-join a M (r .after) (fill M y) (fill (r .after) z) (length-fill M y) ∙ and-yes _ f3 ∙ f4
 
 pub packet-fine : (a : ℕ) (r : Row) (t p n k : ℕ) (x y z : List ℕ) → eqb 26 a ≡ false

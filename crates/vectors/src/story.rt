@@ -27,20 +27,6 @@ fn fields(length: usize) -> Fields {
     }
 }
 
-// k bytes from a byte on; as many as there are.
-fn part(b: &[u8], from: usize, k: usize) -> &[u8] {
-    let p = b.len();
-    if p <= from {
-        return &b[0..0];
-    }
-    if k < p - from {
-        let e = from + k;
-        &b[from..e]
-    } else {
-        &b[from..p]
-    }
-}
-
 // Offers the first n frames of the receiver's output.
 fn offer_all(c: Collector, out: &[u8], n: usize) -> Collector {
     let mut held = c;
@@ -49,7 +35,7 @@ fn offer_all(c: Collector, out: &[u8], n: usize) -> Collector {
         if n <= k {
             return held;
         }
-        let offered = collector::offer(held, part(out, k * 8, 8));
+        let offered = collector::offer(held, format::part(out, k * 8, 8));
         held = offered.collector;
         k += 1;
     }
@@ -78,10 +64,10 @@ fn heard(air: &[u8]) -> Collector {
         receiver: r,
         collector: c,
     };
-    let b = hear(b, part(air, 0, 201));
-    let b = hear(b, part(air, 201, 1));
-    let b = hear(b, part(air, 202, 298));
-    let b = hear(b, part(air, 500, 500));
+    let b = hear(b, format::part(air, 0, 201));
+    let b = hear(b, format::part(air, 201, 1));
+    let b = hear(b, format::part(air, 202, 298));
+    let b = hear(b, format::part(air, 500, 500));
     b.collector
 }
 
@@ -105,14 +91,14 @@ pub(crate) fn run() {
     number(b"story: written, answer ", written.answer as usize, 0);
     number(b"story: bytes of packet ", written.length, 232);
     let mut air = [0u8; 819];
-    let aired = air::on_air(part(&packet, 0, written.length), 5, 3, &mut air);
+    let aired = air::on_air(format::part(&packet, 0, written.length), 5, 3, &mut air);
     number(b"story: on air, answer ", aired.answer as usize, 0);
     number(b"story: frames ", aired.frames, 59);
-    let held = heard(part(&air, 0, 767));
+    let held = heard(format::part(&air, 0, 767));
     let mut board = [0u8; 250];
     let copied = collector::copy(held, 5, 3, &mut board);
     number(b"story: copied, answer ", copied.answer as usize, 0);
-    let shown = part(&board, 0, copied.length);
+    let shown = format::part(&board, 0, copied.length);
     number(
         b"story: text, answer ",
         reader::text_answer(shown) as usize,

@@ -7,9 +7,9 @@ use native.Mathlib.Nat.{zero-mul}
 use native.Mathlib.Omega.{arith}
 use lib.ListN.{length, take, length-append}
 use lib.Seq.{length-take-le, take-take, take-all, take-append-add}
-use Rattle.laws.specs.Bits.{bits, bitsOf, spread}
+use Rattle.laws.specs.Bits.{bitsOf, spread}
 use Rattle.laws.specs.Scan.{all}
-use Rattle.format.specs.Format.{octets, size, need, encode, fill, times}
+use Rattle.format.specs.Format.{octets, size, need, encode, fill, times, sound}
 use Rattle.packet.specs.declared.Form.{Form}
 use Rattle.packet.specs.declared.Form.the-variants.{Frequencies, Address, Keep, Clock, Reset, Factory, Drill, Text, Command, Hold, Raw, Unknown}
 use Rattle.packet.specs.declared.Content.{Content}
@@ -17,7 +17,7 @@ use Rattle.packet.specs.declared.Content.the-variants as content
 use Rattle.packet.specs.Table.{Row, rowOf, typeOf}
 use Rattle.packet.specs.Content.{formFor, numbersOf, countFor}
 use Rattle.packet.specs.Writing.{rowFor, digitsBefore, frontFor, backFor, bodyFor}
-use Rattle.writer.specs.Puts.{sound, After, Fronted, countOf}
+use Rattle.writer.specs.Puts.{After, Fronted, countOf}
 use Rattle.writer.specs.Parts.{bodyBits, bodySize, Lent}
 use Rattle.writer.proofs.Rows.{same-fill}
 

@@ -3,31 +3,17 @@ use mathlib.Core.Path.{_≡_, refl, sym, ap, _∙_}
 use mathlib.Core.Bool.{Bool, true, false, cond}
 use mathlib.Core.List.{List}
 use Prim.Native.Nat.{ℕ, _+_, _*_, _<_, _≤_}
-use native.Mathlib.Nat.{le-trans, mul-le-mul-left}
 use native.Mathlib.Omega.{arith}
-use lib.Dec.{leb}
 use lib.ListN.{length, getD, drop, length-drop, length-replicate, getD-replicate}
 use lib.Seq.{sets, length-take-le, getD-take, getD-drop}
-use borrow.Author.Tests.{leb-true}
 use Rattle.laws.specs.Bits.{bits, bitsOf, spread}
-use Rattle.laws.proofs.Cases.{and-both, if-yes}
+use Rattle.laws.proofs.Cases.{if-yes}
 use Rattle.format.specs.declared.Line.{Line}
-use Rattle.format.specs.Format.{own}
+use Rattle.format.specs.Format.{own, sound}
 use Rattle.format.specs.Reach.{fieldBits}
 use Rattle.format.proofs.Leaves.{reached, same-long, spread-turn, spread-done}
-use Rattle.writer.specs.Puts.{sound, valueOf}
-
-pub record Sound (t : Line) : Type 0 where
-  pub few : t .n ≤ 64
-  pub narrow : t .w ≤ 32
-  pub area : t .n * t .w ≤ 2048
-
-pub sound-is : (t : Line) → sound t ≡ true → Sound t
-sound-is t e =
-    let a = and-both (leb (t .n) 64) (leb (t .w) 32) e in
-    let n = leb-true (t .n) 64 (a .0) in
-    let w = leb-true (t .w) 32 (a .1) in
-    record { few = n; narrow = w; area = le-trans (mul-le-mul-left (t .n) w) (omega arith) }
+use Rattle.writer.specs.Puts.{valueOf}
+use Rattle.format.proofs.Sound.{sound-is}
 
 -- a line has as many numbers as it says, and the j-th is the one that the code takes
 module _ (t : Line) (xs : List ℕ) (i : ℕ) (h : i + own t ≤ length xs) where

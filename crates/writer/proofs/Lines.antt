@@ -1,6 +1,6 @@
 -- The loop that puts lines: how it starts, goes on and ends. Assumes nothing.
 use mathlib.Core.Path.{_≡_, refl, sym, ap, ap₂, _∙_}
-use mathlib.Core.Bool.{true, false}
+use mathlib.Core.Bool.{true}
 use mathlib.Core.List.{List, _∷_}
 use Prim.Native.Nat.{ℕ, _+_, _*_, _<_, _≤_}
 use native.Mathlib.Numerals.{add-one}
@@ -13,15 +13,12 @@ use Rattle.laws.proofs.Bits.{length-spread}
 use Rattle.laws.proofs.Cases.{and-both}
 use Rattle.laws.proofs.Writes.{sets-append}
 use Rattle.format.specs.declared.Line.{Line}
-use Rattle.format.specs.Format.{own, size, need, encode, fill}
+use Rattle.format.specs.Format.{own, size, need, encode, fill, sound}
 use Rattle.format.proofs.Leaves.{same-long}
 use Rattle.packet.specs.declared.Lines.{Lines}
-use Rattle.writer.specs.Puts.{sound, valueOf, After, Puttable}
-use Rattle.writer.proofs.Line.{sound-is, length-value}
-
--- what an array of lines has past its end
-abbrev pub none : Line
-none = record { n = 0; w = 0; lo = 0; hi = 0; other = 0; free = false }
+use Rattle.writer.specs.Puts.{valueOf, After, Puttable}
+use Rattle.writer.proofs.Line.{length-value}
+use Rattle.format.proofs.Sound.{sound-is, none}
 
 -- the first m of six lines
 abbrev pub front : ℕ → List Line → List Line

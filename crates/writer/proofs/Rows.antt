@@ -8,7 +8,6 @@ use native.Mathlib.Omega.{arith}
 use lib.ListN.{length, getD, set, take, drop, length-drop, length-set, take-append-drop, length-append}
 use lib.Seq.{sets, take-suc, take-suc-set, getD-drop, length-take-le, drop-drop, take-take}
 use Rattle.laws.specs.Bits.{bits, spread}
-use Rattle.laws.specs.Scan.{all}
 use Rattle.laws.proofs.Bits.{length-spread}
 use Rattle.laws.proofs.Writes.{sets-append}
 use Rattle.format.specs.declared.Line.{Line}

@@ -9,8 +9,8 @@ use native.Mathlib.Omega.{arith}
 use lib.ListN.{length, take, drop, length-drop, take-append-drop}
 use lib.Seq.{take-at, length-take-le, take-all}
 use Rattle.laws.specs.Scan.{all}
-use Rattle.format.specs.Format.{need, fill, times, inside, fine}
-use Rattle.format.proofs.Tables.{apart, apart-fine, all-times}
+use Rattle.format.specs.Format.{need, fill, times, inside, fine, unmet}
+use Rattle.format.proofs.Tables.{unmet-fine, all-times}
 use Rattle.packet.specs.declared.Content.{Content}
 use Rattle.packet.specs.declared.Content.the-variants as content
 use Rattle.packet.specs.declared.Form.the-variants.{Frequencies}
@@ -43,7 +43,7 @@ codes-digits (suc n) codes h =
 
 pub codes-range : (n : ℕ) (vs : List (List ℕ)) → fine 27 (times n code) vs ≡ true
 unfolding all
-codes-range n vs = apart-fine 27 (times n code) vs (all-times (apart 27) n code refl)
+codes-range n vs = unmet-fine 27 (times n code) vs (all-times (unmet 27) n code refl)
 
 -- ---- the first lines
 pub front-digits : (c : Content) (ds : List ℕ) → inside 0 9 ds ≡ true → fine 25 (rowFor c .before) (fill (rowFor c .before) (frontFor c ds)) ≡ true
@@ -75,7 +75,7 @@ front-range (content.Command k) ds = refl
 front-range (content.Hold serial) ds = refl
 
 -- ---- what is repeated: only entries are tested
-untested : {a : ℕ} → Class a → (c : Content) → (typeOf (formFor c) ≡ 0 → ⊥) → all (apart a) (rowFor c .each) ≡ true
+untested : {a : ℕ} → Class a → (c : Content) → (typeOf (formFor c) ≡ 0 → ⊥) → all (unmet a) (rowFor c .each) ≡ true
 unfolding all
 untested digit content.Raw n = refl
 untested digit (content.Frequencies k) n = absurd (n refl)
@@ -101,7 +101,7 @@ untested range (content.Command k) n = refl
 untested range (content.Hold serial) n = refl
 
 pub rows-untested : {a : ℕ} → Class a → (c : Content) → (typeOf (formFor c) ≡ 0 → ⊥) → (k : ℕ) (vs : List (List ℕ)) → fine a (times k (rowFor c .each)) vs ≡ true
-rows-untested {a} q c n k vs = apart-fine a (times k (rowFor c .each)) vs (all-times (apart a) k (rowFor c .each) (untested q c n))
+rows-untested {a} q c n k vs = unmet-fine a (times k (rowFor c .each)) vs (all-times (unmet a) k (rowFor c .each) (untested q c n))
 
 -- ---- the last lines
 pub back-digits : (c : Content) (ds : List ℕ) → inside 0 9 ds ≡ true → fine 25 (rowFor c .after) (fill (rowFor c .after) (backFor c ds)) ≡ true
@@ -118,7 +118,7 @@ back-digits (content.Text kind set t) ds h = refl
 back-digits (content.Command k) ds h = refl
 back-digits (content.Hold serial) ds h = refl
 
-no-range : (c : Content) → all (apart 27) (rowFor c .after) ≡ true
+no-range : (c : Content) → all (unmet 27) (rowFor c .after) ≡ true
 unfolding all
 no-range content.Raw = refl
 no-range (content.Frequencies k) = refl
@@ -133,7 +133,7 @@ no-range (content.Command k) = refl
 no-range (content.Hold serial) = refl
 
 pub back-range : (c : Content) (vs : List (List ℕ)) → fine 27 (rowFor c .after) vs ≡ true
-back-range c vs = apart-fine 27 (rowFor c .after) vs (no-range c)
+back-range c vs = unmet-fine 27 (rowFor c .after) vs (no-range c)
 
 -- ---- what follows the content
 pub ending-digits : (time : ℕ) (certificate signature : List ℕ) → length certificate ≡ 12 → fine 25 ending (fill ending (time ∷ (certificate ++ signature))) ≡ inside 0 9 certificate
@@ -142,7 +142,7 @@ ending-digits time certificate signature h = rw (take-at certificate signature 1
 
 pub ending-range : (vs : List (List ℕ)) → fine 27 ending vs ≡ true
 unfolding all
-ending-range vs = apart-fine 27 ending vs refl
+ending-range vs = unmet-fine 27 ending vs refl
 
 -- ---- an answer that is one of the two, and the entries as the code tests them
 pub class-of : (a : ℕ) → (a ≡ 25) ⊎ (a ≡ 27) → Class a

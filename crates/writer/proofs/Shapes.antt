@@ -10,11 +10,10 @@ use Rattle.laws.specs.Bits.{bits}
 use Rattle.laws.specs.Scan.{all}
 use Rattle.laws.proofs.Writes.{sets-append}
 use Rattle.format.specs.declared.Line.{Line}
-use Rattle.format.specs.Format.{size, need, encode, fill, times}
-use Rattle.format.proofs.Leaves.{same-long}
+use Rattle.format.specs.Format.{size, need, encode, fill, times, sound}
 use Rattle.packet.specs.declared.Lines.{Lines}
 use Rattle.packet.specs.Shape.{Listed}
-use Rattle.writer.specs.Puts.{sound, After, Puttable, Rows}
+use Rattle.writer.specs.Puts.{After, Puttable, Rows}
 
 module _ (ts : Lines) (ls : List Line) (h : Listed ts ls) where
   pub can-put : all sound ls ≡ true → (xs : List ℕ) (p : ℕ) → need ls ≤ length xs → length xs ≤ 1000 → p < 30000 → Puttable ts xs p
@@ -54,6 +53,3 @@ then-put out mid last p q r v w s t e a b =
       put = b .put ∙ ap₂ (λ (l : List ℕ) (n : ℕ). sets l n w) (a .put) (sym k) ∙ sym (sets-append v w (bits out) p);
       place = omega arith;
     }
-
-pub after-long : (out last : List ℕ) (p : ℕ) (v : List ℕ) (r s : ℕ) → After out last p v r s → length last ≡ length out
-after-long out last p v r s a = same-long last out p v (a .put)

@@ -10,14 +10,14 @@ use Rattle.laws.specs.Bits.{bits, bitsOf, spread}
 use Rattle.laws.specs.Scan.{all}
 use Rattle.laws.proofs.Bits.{length-bitsOf, length-spread}
 use Rattle.format.specs.declared.Line.{Line}
-use Rattle.format.specs.Format.{just, size, need, encode, fill, times}
+use Rattle.format.specs.Format.{just, size, need, encode, fill, times, sound}
 use Rattle.format.proofs.Tables.{size-times, need-append, need-times}
 use Rattle.packet.specs.declared.Content.{Content}
 use Rattle.packet.specs.declared.Fields.{Fields}
 use Rattle.packet.specs.Table.{code, ending, packet, contentLines, countLine}
 use Rattle.packet.specs.Content.{formFor, countFor}
 use Rattle.packet.specs.Writing.{rowFor, frontFor, backFor, bodyFor, sizeFor, tableFor, numbersFor, valuesFor}
-use Rattle.writer.specs.Puts.{sound, After}
+use Rattle.writer.specs.Puts.{After}
 use Rattle.writer.specs.Parts.{linesFor, contentBits, contentSize, headBits, endingBits, Lent, Counts}
 use Rattle.writer.proofs.Rows.{encode-size}
 use Rattle.writer.proofs.Contents.{small, length-front, length-back}

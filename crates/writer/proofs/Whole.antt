@@ -5,7 +5,7 @@ use Prim.Native.Nat.{ℕ, _+_, _-_, _≤_}
 use native.Mathlib.Nat.{le-trans, mul-le-mul-left}
 use native.Mathlib.Omega.{arith}
 use lib.ListN.{length, length-append}
-use Rattle.laws.specs.Bits.{bits, bitsOf, spread}
+use Rattle.laws.specs.Bits.{bitsOf, spread}
 use Rattle.laws.proofs.Bits.{length-bitsOf, length-spread}
 use Rattle.format.specs.declared.Line.{Line}
 use Rattle.format.specs.Format.{size, need, encode, fill, times}

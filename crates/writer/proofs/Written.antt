@@ -1,16 +1,16 @@
 -- What an answer of 0 says of the fields, and that the bits put are the packet's bytes. Assumes nothing.
-use mathlib.Core.Path.{_≡_, refl, sym, ap, ap₂, _∙_, subst}
+use mathlib.Core.Path.{_≡_, refl, sym, ap, ap₂, _∙_}
 use mathlib.Core.Bool.{Bool, true, false, not, _&&_, _||_, false≢true}
-use mathlib.Core.List.{List, [], _∷_, _++_, append-assoc}
-use Prim.Native.Nat.{ℕ, zero, suc, _+_, _*_, _/_, _<_, _≤_}
+use mathlib.Core.List.{List, [], _∷_, _++_}
+use Prim.Native.Nat.{ℕ, zero, suc, _+_, _*_, _/_, _≤_}
 use native.Mathlib.Nat.{zero-mul}
 use native.Mathlib.Omega.{arith}
 use lib.Dec.{ltb, eqb}
 use lib.ListN.{length, drop}
-use lib.Seq.{sets, drop-nil, drop-append-add, getD-drop}
+use lib.Seq.{sets, drop-nil, drop-append-add}
 use borrow.Author.Tests.{ltb-false, eqb-true, not-false}
 use Rattle.laws.specs.Bits.{bits, bytes, spread, bitsOf}
-use Rattle.laws.proofs.Bits.{Under, length-bitsOf, length-spread, length-run, under-run, under-append, bytes-bits, bits-bytes}
+use Rattle.laws.proofs.Bits.{Under, length-bitsOf, length-spread, length-run, under-run, under-append, bytes-bits, bits-bytes, spread-append, under-drop}
 use Rattle.laws.proofs.Refusals.{not-due}
 use Rattle.laws.proofs.Writes.{from-front}
 use Rattle.format.specs.Format.{encode, need, fine}
@@ -20,19 +20,15 @@ use Rattle.packet.specs.declared.Content.{Content}
 use Rattle.packet.specs.declared.Content.the-variants as content
 use Rattle.packet.specs.declared.Fields.{Fields}
 use Rattle.packet.specs.Content.{countFor, noSuchDay}
-use Rattle.packet.specs.Writing.{rowFor, sizeFor, tableFor, valuesFor, bytesFor, writtenBy, outputBy, lentBad, otherType, bodyLost, digitsLost, countBad, digitBad, notTaken, writtenAnswer, written, outputOf}
+use Rattle.packet.specs.Writing.{rowFor, sizeFor, tableFor, valuesFor, bytesFor, lentBad, otherType, bodyLost, digitsLost, countBad, digitBad, notTaken, writtenAnswer, written, outputOf}
 use Rattle.writer.specs.Parts.{Lent, Writable}
 use Rattle.writer.specs.Ranges.{bytesOf}
 use Rattle.writer.proofs.Taken.{good-counts, counted-lent}
 use Rattle.writer.proofs.Size.{size-is, content-bits}
 use Rattle.writer.proofs.Together.{code-size, packet-long}
+use Rattle.packet.proofs.Refused.{not-written}
 
 -- ---- lists of bits
-spread-append : (w : ℕ) (xs ys : List ℕ) → spread w (xs ++ ys) ≡ spread w xs ++ spread w ys
-unfolding spread
-spread-append w [] ys = refl
-spread-append w (x ∷ xs) ys = ap (λ (l : List ℕ). bitsOf w x ++ l) (spread-append w xs ys) ∙ sym (append-assoc (bitsOf w x) (spread w xs) (spread w ys))
-
 drop-bits : (n : ℕ) (xs : List ℕ) → drop (8 * n) (bits xs) ≡ bits (drop n xs)
 unfolding spread
 drop-bits zero xs = refl
@@ -40,9 +36,6 @@ drop-bits (suc n) [] = drop-nil (8 * suc n)
 drop-bits (suc n) (x ∷ xs) =
     let e : 8 * suc n ≡ length (bitsOf 8 x) + 8 * n = omega (arith, length-bitsOf 8 x) in
     ap (λ (k : ℕ). drop k (bitsOf 8 x ++ bits xs)) e ∙ drop-append-add (bitsOf 8 x) (bits xs) (8 * n) ∙ drop-bits n xs
-
-under-drop : (k n : ℕ) (xs : List ℕ) → Under k xs → Under k (drop n xs)
-under-drop k n xs u i = subst (λ (x : ℕ). x < k) (sym (getD-drop n xs i 0)) (u (n + i))
 
 -- ---- an answer of 0
 pub record Passed (f : Fields) (codes body : List ℕ) (room : ℕ) : Type 0 where
@@ -54,12 +47,12 @@ pub record Passed (f : Fields) (codes body : List ℕ) (room : ℕ) : Type 0 whe
 pub passed : (f : Fields) (codes body : List ℕ) (room : ℕ) → writtenAnswer f codes body room ≡ 0 → Passed f codes body room
 unfolding writtenAnswer
 passed f codes body room e =
-    let a = not-due _ 22 _ e in
-    let b = not-due (countBad f codes body) 25 _ (a .1) in
-    let c = not-due (digitBad f codes body) 24 _ (b .1) in
-    let d = not-due (notTaken f codes body) 26 _ (c .1) in
-    let s = not-due (ltb 250 (sizeFor f body)) 19 _ (d .1) in
-    let r = not-due (ltb room (sizeFor f body)) 9 _ (s .1) in
+    let a = not-due _ 23 _ (λ h. omega arith) e in
+    let b = not-due (countBad f codes body) 26 _ (λ h. omega arith) (a .1) in
+    let c = not-due (digitBad f codes body) 25 _ (λ h. omega arith) (b .1) in
+    let d = not-due (notTaken f codes body) 27 _ (λ h. omega arith) (c .1) in
+    let s = not-due (ltb 250 (sizeFor f body)) 20 _ (λ h. omega arith) (d .1) in
+    let r = not-due (ltb room (sizeFor f body)) 10 _ (λ h. omega arith) (s .1) in
     record { counts = b .0; taken = d .0; small = ltb-false 250 (sizeFor f body) (s .0); room-enough = ltb-false room (sizeFor f body) (r .0) }
 
 -- all of the body is the content's
@@ -127,18 +120,11 @@ bytes-put last out e p ul uo ue l h w =
     ∙ ap (λ (n : ℕ). bytes e ++ drop n out) (sym m)
 
 -- ---- the ways out of `write`
-not-written : (a p : ℕ) → (a ≡ 0 → ⊥) → record { answer = a; length = 0 } ≡ writtenBy a p
-not-written zero p n = absurd (n refl)
-not-written (suc a) p n = refl
-
-not-out : (a : ℕ) (xs out : List ℕ) → (a ≡ 0 → ⊥) → out ≡ outputBy a xs out
-not-out zero xs out n = absurd (n refl)
-not-out (suc a) xs out n = refl
-
 module _ (f : Fields) (codes body out : List ℕ) where
   pub refused : (a : ℕ) → a ≡ writtenAnswer f codes body (length out) → (a ≡ 0 → ⊥) → (record { answer = a; length = 0 } ≡ written f codes body (length out)) × (out ≡ outputOf f codes body out)
   unfolding written outputOf
-  refused a e n = rw (← e) (not-written a (sizeFor f body) n, not-out a (bytesFor f codes body) out n)
+  refused a e n =
+      let w = not-written a (sizeFor f body) (bytesFor f codes body) out n in rw (← e) (sym (w .0), sym (w .1))
 
   pub done : (d : length (f .digits) ≡ 35) (lc : length (f .certificate) ≡ 12) (ls : length (f .signature) ≡ 64) (last : List ℕ) (p : ℕ) → writtenAnswer f codes body (length out) ≡ 0 → Under 256 last → Under 256 out → p ≡ sizeFor f body
       → bits last ≡ sets (bits out) 0 (encode (tableFor f body) (valuesFor f codes body)) → (record { answer = 0; length = p } ≡ written f codes body (length out)) × (last ≡ outputOf f codes body out)

@@ -1,23 +1,18 @@
 -- What the writer's helpers ask and give.
 use mathlib.Core.Path.{_≡_}
-use mathlib.Core.Bool.{Bool, true, _&&_, cond}
+use mathlib.Core.Bool.{true, cond}
 use mathlib.Core.List.{List, _++_}
 use Prim.Native.Nat.{ℕ, _+_, _*_, _<_, _≤_}
 use lib.ListN.{length, replicate, take}
 use lib.Seq.{sets}
-use lib.Dec.{leb}
 use Rattle.laws.specs.Bits.{bits}
 use Rattle.laws.specs.Scan.{all}
 use Rattle.format.specs.declared.Line.{Line}
-use Rattle.format.specs.Format.{need, size}
+use Rattle.format.specs.Format.{need, size, sound}
 use Rattle.packet.specs.declared.Lines.{Lines}
 use Rattle.packet.specs.declared.Content.{Content}
 use Rattle.packet.specs.declared.Content.the-variants as content
 use Rattle.packet.specs.Content.{numbersOf}
-
--- a line that the writer's loops can put: at most 64 numbers of at most 32 bits
-abbrev pub sound : Line → Bool
-sound t = leb (t .n) 64 && leb (t .w) 32
 
 -- the numbers of a line, where xs are those at hand
 abbrev pub valueOf : Line → List ℕ → List ℕ

@@ -1,9 +1,8 @@
 // A content put into bits: its numbers and digits, its count, its body.
 ghost use mathlib.Core.Path.{_≡_};
 ghost use mathlib.Core.List.{[], _∷_, _++_};
-ghost use Prim.Native.Nat.{_+_, _*_, _<_, _≤_};
-ghost use lib.ListN.{length, take, replicate};
-ghost use lib.Seq.{sets};
+ghost use Prim.Native.Nat.{_+_, _<_, _≤_};
+ghost use lib.ListN.{length, take};
 ghost use Rattle.packet.specs.Content.{formFor, numbersOf};
 ghost use Rattle.format.specs.Format.{size};
 ghost use Rattle.packet.specs.Writing.{rowFor};

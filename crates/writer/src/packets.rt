@@ -1,8 +1,6 @@
 // A whole packet put into bits.
 ghost use mathlib.Core.Path.{_≡_};
-ghost use mathlib.Core.List.{[], _∷_, _++_};
-ghost use Prim.Native.Nat.{_+_, _-_, _*_, _<_, _≤_};
-ghost use lib.ListN.{length};
+ghost use Prim.Native.Nat.{_+_, _-_, _<_, _≤_};
 ghost use lib.Seq.{sets};
 ghost use Rattle.laws.specs.Bits.{bits};
 ghost use Rattle.packet.specs.Writing.{tableFor, valuesFor, sizeFor};

@@ -2,14 +2,14 @@
 ghost use mathlib.Core.Path.{_≡_};
 ghost use mathlib.Core.Bool.{true, cond};
 ghost use Prim.Native.Nat.{_+_, _*_, _<_, _≤_};
-ghost use lib.ListN.{length, getD, take, drop, replicate};
+ghost use lib.ListN.{length, getD, take, drop};
 ghost use lib.Seq.{sets};
 ghost use Rattle.laws.specs.Bits.{bits, spread};
 ghost use Rattle.laws.specs.Scan.{all};
-ghost use Rattle.format.specs.Format.{own, size, encode, fill, times};
+ghost use Rattle.format.specs.Format.{own, size, encode, fill, times, sound};
 ghost use Rattle.packet.specs.Table.{countLine};
 ghost use mathlib.Core.List.{[]};
-ghost use Rattle.writer.specs.Puts.{sound, valueOf, After, Puttable, Rows};
+ghost use Rattle.writer.specs.Puts.{valueOf, After, Puttable, Rows};
 use format::Line;
 use packet::Lines;
 use packet::Sort;

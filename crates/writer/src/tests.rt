@@ -1,13 +1,13 @@
 // What is wrong with fields: the answers 23, 26, 25, 27, 20 and 10, in that order.
 ghost use mathlib.Core.Path.{_≡_};
-ghost use mathlib.Core.Bool.{Bool, not, _&&_, false};
+ghost use mathlib.Core.Bool.{not, _&&_, false};
 ghost use Prim.Native.Nat.{_+_, _*_, _<_, _≤_};
-ghost use lib.ListN.{length, drop};
+ghost use lib.ListN.{length};
 ghost use Rattle.format.specs.Format.{inside, fine, fill, times};
 ghost use Rattle.packet.specs.declared.Form.the-variants as form;
 ghost use Rattle.packet.specs.Table.{rowOf, typeOf};
 ghost use Rattle.packet.specs.Content.{formFor, countFor, noSuchDay};
-ghost use Rattle.packet.specs.Writing.{rowFor, bodyFor, digitsBefore, digitsAfter, digitsLost, countBad, digitBad, notTaken, sizeFor, writtenAnswer};
+ghost use Rattle.packet.specs.Writing.{rowFor, bodyFor, digitsBefore, digitsAfter, digitsLost, countBad, digitBad, notTaken, writtenAnswer};
 ghost use lib.Dec.{leb, ltb, eqb};
 ghost use mathlib.Core.Logic.{_⊎_};
 ghost use Rattle.writer.specs.Parts.{Lent, Bodied, Counts};

@@ -7,7 +7,7 @@ use lib.ListN.{length, drop}
 use Rattle.laws.specs.Scan.{all}
 use Rattle.laws.proofs.Scan.{all-next, all-stop, all-end}
 use Rattle.laws.proofs.Elements.{length-mapped}
-use Rattle.collector.specs.Places.{apart, taken}
+use Rattle.collector.specs.Places.{apart}
 use borrow.Author.Needs.{needs}
 use Rattle.collector.proofs.alone.Statement.{statement}
 use Rattle.collector.proofs.alone.Tie as tie

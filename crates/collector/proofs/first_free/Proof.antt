@@ -6,7 +6,6 @@ use lib.ListN.{length, drop}
 use Rattle.laws.specs.Scan.{indexOf}
 use Rattle.laws.proofs.Scan.{index-next, index-stop, index-end}
 use Rattle.laws.proofs.Elements.{length-mapped}
-use Rattle.collector.specs.Places.{taken}
 use Rattle.collector.specs.Collector.{isFree, indexOfFree}
 use borrow.Author.Needs.{needs}
 use Rattle.collector.proofs.first_free.Statement.{statement}

@@ -6,7 +6,7 @@ use lib.ListN.{length, drop}
 use Rattle.laws.specs.Scan.{indexOf}
 use Rattle.laws.proofs.Scan.{index-next, index-stop, index-end}
 use Rattle.laws.proofs.Elements.{length-mapped}
-use Rattle.collector.specs.Places.{isPair, taken}
+use Rattle.collector.specs.Places.{isPair}
 use Rattle.collector.specs.Collector.{indexOfPair}
 use borrow.Author.Needs.{needs}
 use Rattle.collector.proofs.index_of.Statement.{statement}

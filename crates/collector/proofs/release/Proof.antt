@@ -6,7 +6,7 @@ use borrow.Author.Tests.{not-true, not-false}
 use lib.ListN.{length, getD}
 use Rattle.laws.proofs.Elements.{length-mapped}
 use Rattle.collector.specs.declared.Place.{Place}
-use Rattle.collector.specs.Places.{taken, freed, blank}
+use Rattle.collector.specs.Places.{freed, blank}
 use Rattle.collector.proofs.Laws.{release-28, release-18, release-0, is-held, is-not-held}
 use Rattle.collector.specs.Collector.{put}
 use borrow.Author.Needs.{needs}

@@ -2,10 +2,10 @@
 use mathlib.Core.Path.{_≡_, sym, ap, ap₂, _∙_}
 use Prim.Native.Nat.{ℕ}
 use native.Mathlib.Omega.{arith}
-use lib.ListN.{length, getD, take}
+use lib.ListN.{length, getD}
 use Rattle.laws.proofs.Elements.{length-mapped}
 use Rattle.collector.specs.declared.Place.{Place}
-use Rattle.collector.specs.Places.{against, taken, blank}
+use Rattle.collector.specs.Places.{against, blank}
 use Rattle.collector.proofs.Laws.{all-held, some-free, is-held, is-not-held, take-held, take-against, take-free, take-full}
 use Rattle.collector.specs.Collector.{indexOfFree, kept}
 use borrow.Author.Needs.{needs}

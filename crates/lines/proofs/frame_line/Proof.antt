@@ -1,12 +1,11 @@
 -- `lines::frame_line` meets its contract. Assumes nothing.
-use Rattle.lines.specs.Lines.{lineOf}
+use Rattle.lines.specs.Lines.{lineOf, hexOf}
 use mathlib.Core.Path.{_≡_, ap, _∙_}
 use native.Mathlib.Omega.{arith}
 use Prim.Native.Nat.{_+_, _*_}
 use lib.ListN.{length, set, length-set, length-drop}
 use lib.Seq.{length-sets}
 use Rattle.laws.proofs.Parts.{part-is}
-use Rattle.lines.specs.Lines.{hexOf}
 use Rattle.lines.proofs.Whole.{nothing, all, together}
 use borrow.Author.Needs.{needs}
 use Rattle.lines.proofs.frame_line.Statement.{statement}

@@ -2,11 +2,11 @@
 use mathlib.Core.Path.{_≡_, sym, _∙_}
 use denote.Ref.{now}
 use native.Mathlib.Omega.{arith}
-use Rattle.reader.proofs.Whole as whole
 use Rattle.packet.specs.Reading.{readAnswer, bodyOf}
 use borrow.Author.Needs.{needs}
 use Rattle.reader.proofs.body.Statement.{statement}
 use Rattle.reader.proofs.body.Tie as tie
+use Rattle.packet.proofs.Refused.{no-part}
 
 answer-requires : tie.Need-answer-requires
 answer-requires c κs = search needs
@@ -53,7 +53,7 @@ unfolding bodyOf
 returns-2 c =
     let b = now (c .before .before .before .before .args .packet) in
     let e = c .before .before .answer .ensures in
-    sym (whole.no-part (readAnswer b) _ _ b (λ h. c .before .if1 .left (e ∙ h)))
+    sym (no-part (readAnswer b) _ _ b (λ h. c .before .if1 .left (e ∙ h)))
 
 pub body-spec : {M : Type 1} → statement M
 body-spec =

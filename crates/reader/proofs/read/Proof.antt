@@ -6,6 +6,7 @@ use Rattle.packet.specs.Reading.{readAnswer, opened, refusedAs}
 use borrow.Author.Needs.{needs}
 use Rattle.reader.proofs.read.Statement.{statement}
 use Rattle.reader.proofs.read.Tie as tie
+use Rattle.packet.proofs.Refused.{not-opened}
 
 answer-requires : tie.Need-answer-requires
 answer-requires c κs = search needs
@@ -34,7 +35,7 @@ unfolding opened
 returns-2 c =
     let b = now (c .before .before .before .before .args .packet) in
     let e = c .before .before .answer .ensures in
-    c .refused .ensures ∙ ap refusedAs e ∙ sym (whole.not-opened (readAnswer b) b (λ h. c .before .if1 .left (e ∙ h)))
+    c .refused .ensures ∙ ap refusedAs e ∙ sym (not-opened (readAnswer b) b (λ h. c .before .if1 .left (e ∙ h)))
 
 pub read-spec : {M : Type 1} → statement M
 read-spec =

@@ -1,11 +1,11 @@
 -- `reader::text` meets its contract. Assumes nothing.
 use mathlib.Core.Path.{_≡_, sym, _∙_}
 use denote.Ref.{now}
-use Rattle.reader.proofs.Whole as whole
 use Rattle.packet.specs.Reading.{textAnswer, textOf}
 use borrow.Author.Needs.{needs}
 use Rattle.reader.proofs.text.Statement.{statement}
 use Rattle.reader.proofs.text.Tie as tie
+use Rattle.packet.proofs.Refused.{no-part}
 
 text-answer-requires : tie.Need-text-answer-requires
 text-answer-requires c κs = search needs
@@ -46,7 +46,7 @@ unfolding textOf
 returns-2 c =
     let b = now (c .before .before .before .before .args .packet) in
     let e = c .before .before .text-answer .ensures in
-    sym (whole.no-part (textAnswer b) _ _ b (λ h. c .before .if1 .left (e ∙ h)))
+    sym (no-part (textAnswer b) _ _ b (λ h. c .before .if1 .left (e ∙ h)))
 
 pub text-spec : {M : Type 1} → statement M
 text-spec =

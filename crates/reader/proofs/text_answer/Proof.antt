@@ -2,11 +2,10 @@
 use mathlib.Core.Path.{sym, ap, _∙_}
 use Prim.Native.Nat.{ℕ}
 use denote.Ref.{now}
-use Rattle.packet.specs.Reading.{kindIn}
+use Rattle.packet.specs.Reading.{kindIn, readAnswer}
 use borrow.Author.Tests.{eq-eqb, ne-eqb}
 use Rattle.reader.proofs.Whole as whole
 use mathlib.Core.Bool.{Bool, not, cond}
-use Rattle.packet.specs.Reading.{readAnswer}
 use lib.Dec.{eqb}
 use borrow.Author.Needs.{needs}
 use Rattle.reader.proofs.text_answer.Statement.{statement}

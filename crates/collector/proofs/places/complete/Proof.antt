@@ -8,7 +8,7 @@ use lib.ListN.{length, drop, take, length-take, drop-of-length-le}
 use lib.Seq.{getD-take}
 use Rattle.laws.specs.Scan.{all}
 use Rattle.laws.proofs.Scan.{all-next, all-stop}
-use Rattle.collector.specs.Places.{isSet, complete, taken}
+use Rattle.collector.specs.Places.{isSet, complete}
 use borrow.Author.Needs.{needs}
 use Rattle.collector.proofs.places.complete.Statement.{statement}
 use Rattle.collector.proofs.places.complete.Tie as tie

@@ -5,7 +5,7 @@ use mathlib.Core.List.{List, _++_}
 use Prim.Native.Nat.{ℕ}
 use native.Mathlib.Omega.{arith}
 use lib.ListN.{length, drop}
-use Rattle.collector.specs.Places.{taken, state, whole}
+use Rattle.collector.specs.Places.{state, whole}
 use Rattle.collector.proofs.Laws.{whole-is, not-whole, copy-18, copy-10, copy-0, within, size-here, taken-here}
 use borrow.Author.Needs.{needs}
 use Rattle.collector.proofs.places.copy_out.Statement.{statement}

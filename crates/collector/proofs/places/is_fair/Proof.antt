@@ -2,7 +2,7 @@
 use mathlib.Core.Path.{sym, _∙_}
 use borrow.Author.Tests.{le-leb, lt-leb}
 use Rattle.laws.proofs.Cases.{and-yes, and-no, or-yes, or-no}
-use Rattle.collector.specs.Places.{fair, taken}
+use Rattle.collector.specs.Places.{fair}
 use borrow.Author.Needs.{needs}
 use Rattle.collector.proofs.places.is_fair.Statement.{statement}
 use Rattle.collector.proofs.places.is_fair.Tie as tie

@@ -2,7 +2,6 @@
 use mathlib.Core.Path.{sym, _∙_}
 use borrow.Author.Tests.{eq-eqb, ne-eqb, not-true, not-false}
 use Rattle.laws.proofs.Cases.{and-yes, and-no}
-use Rattle.collector.specs.Places.{taken}
 use Rattle.collector.proofs.places.is_pair.Statement.{statement}
 use Rattle.collector.proofs.places.is_pair.Tie as tie
 

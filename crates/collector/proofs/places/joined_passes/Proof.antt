@@ -5,7 +5,6 @@ use native.Mathlib.Omega.{arith}
 use lib.ListN.{length, take}
 use lib.Seq.{take-all}
 use Rattle.collector.specs.Whole.{passes}
-use Rattle.collector.specs.Places.{taken}
 use borrow.Author.Needs.{needs}
 use Rattle.collector.proofs.places.joined_passes.Statement.{statement}
 use Rattle.collector.proofs.places.joined_passes.Tie as tie

@@ -6,7 +6,7 @@ use native.Mathlib.Omega.{arith}
 use lib.ListN.{length, drop, drop-of-length-le}
 use Rattle.laws.specs.Scan.{all}
 use Rattle.laws.proofs.Scan.{all-next, all-stop}
-use Rattle.collector.specs.Places.{isClear, marksBelow, taken}
+use Rattle.collector.specs.Places.{isClear, marksBelow}
 use borrow.Author.Needs.{needs}
 use Rattle.collector.proofs.places.marks_below.Statement.{statement}
 use Rattle.collector.proofs.places.marks_below.Tie as tie

@@ -2,7 +2,6 @@
 use mathlib.Core.Path.{sym, _∙_}
 use borrow.Author.Tests.{eq-eqb, ne-eqb}
 use Rattle.laws.proofs.Cases.{and-yes, and-no}
-use Rattle.collector.specs.Places.{taken}
 use borrow.Author.Needs.{needs}
 use Rattle.collector.proofs.places.same_four.Statement.{statement}
 use Rattle.collector.proofs.places.same_four.Tie as tie

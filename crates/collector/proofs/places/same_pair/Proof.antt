@@ -2,7 +2,6 @@
 use mathlib.Core.Path.{sym, _∙_}
 use borrow.Author.Tests.{not-true, not-false}
 use Rattle.laws.proofs.Cases.{and-yes, and-no}
-use Rattle.collector.specs.Places.{taken}
 use borrow.Author.Needs.{needs}
 use Rattle.collector.proofs.places.same_pair.Statement.{statement}
 use Rattle.collector.proofs.places.same_pair.Tie as tie

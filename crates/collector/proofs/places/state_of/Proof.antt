@@ -1,7 +1,6 @@
 -- `collector::places::state_of` meets its contract. Assumes nothing.
 use mathlib.Core.Path.{sym, _∙_}
 use borrow.Author.Tests.{not-true, not-false}
-use Rattle.collector.specs.Places.{complete, taken}
 use Rattle.collector.proofs.Laws.{is-missing, is-whole, is-spoiled}
 use borrow.Author.Needs.{needs}
 use Rattle.collector.proofs.places.state_of.Statement.{statement}

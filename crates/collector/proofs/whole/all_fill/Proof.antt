@@ -7,7 +7,6 @@ use lib.ListN.{length, drop}
 use Rattle.laws.specs.Scan.{all}
 use Rattle.laws.proofs.Scan.{all-next, all-stop, all-end}
 use Rattle.collector.specs.Whole.{isFill}
-use Rattle.collector.specs.Places.{taken}
 use borrow.Author.Needs.{needs}
 use Rattle.collector.proofs.whole.all_fill.Statement.{statement}
 use Rattle.collector.proofs.whole.all_fill.Tie as tie

@@ -4,7 +4,6 @@ use mathlib.Core.Path.{_≡_, sym, ap₂, _∙_}
 use Prim.Native.Nat.{ℕ, _+_, _*_, _%_}
 use native.Mathlib.Omega.{arith}
 use lib.ListN.{getD}
-use Rattle.collector.proofs.Laws.{size-bytes}
 use borrow.Author.Needs.{needs}
 use Rattle.collector.proofs.whole.packet_size.Statement.{statement}
 use Rattle.collector.proofs.whole.packet_size.Tie as tie

@@ -1,12 +1,9 @@
 -- `collector::whole::passes` meets its contract. Assumes nothing.
-use Rattle.collector.specs.Places.{taken}
 use Rattle.collector.proofs.Laws.{fill-is, size-least, size-most, check-is, too-short, too-long, other-check, by-fill}
 use mathlib.Core.Path.{sym, _∙_}
 use Prim.Native.Nat.{_+_}
 use native.Mathlib.Omega.{arith}
 use borrow.Author.Tests.{eq-eqb, ne-eqb}
-use Rattle.collector.specs.Places.{taken}
-use Rattle.collector.proofs.Laws.{size-least, size-most, check-is, too-short, too-long, other-check, by-fill}
 use borrow.Author.Needs.{needs}
 use Rattle.collector.proofs.whole.passes.Statement.{statement}
 use Rattle.collector.proofs.whole.passes.Tie as tie

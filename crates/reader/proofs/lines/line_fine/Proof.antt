@@ -4,10 +4,10 @@ use native.Mathlib.Omega.{arith}
 use borrow.Author.Tests.{eq-eqb, ne-eqb}
 use Rattle.laws.proofs.Cases.{if-yes, if-no}
 use Rattle.format.proofs.Leaves.{reached}
-use Rattle.reader.proofs.Loops as laws
 use borrow.Author.Needs.{needs}
 use Rattle.reader.proofs.lines.line_fine.Statement.{statement}
 use Rattle.reader.proofs.lines.line_fine.Tie as tie
+use Rattle.format.proofs.Sound.{sound-is}
 
 ranged-requires : tie.Need-ranged-requires
 ranged-requires c κs = search needs
@@ -15,7 +15,7 @@ ranged-requires c κs = search needs
 returns : tie.Need-returns
 returns c =
     let a = c .before .before .before .args in
-    let s = laws.sound-is (a .t) (c .before .before .before .pre .0) in
+    let s = sound-is (a .t) (c .before .before .before .pre .0) in
     c .ranged .ensures ∙ if-yes _ _ (reached (a .p) (a .t .n) (a .t .w) (c .before .before .before .pre .1) (omega (arith, s .few)) (s .narrow)) ∙ sym (if-yes _ _ (eq-eqb (a .t .other) (a .k) (c .before .if1 .taken)))
 
 returns-2 : tie.Need-returns-2

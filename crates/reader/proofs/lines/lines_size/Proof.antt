@@ -5,12 +5,13 @@ use Prim.Native.Nat.{_≤_, _-_, _+_, _*_}
 use lib.ListN.{length, drop, getD, take}
 use native.Mathlib.Omega.{arith}
 use Rattle.laws.specs.Scan.{all}
-use Rattle.format.specs.Format.{size}
-use Rattle.reader.specs.Sound.{sound}
+use Rattle.format.specs.Format.{size, sound}
 use Rattle.reader.proofs.Loops as laws
 use borrow.Author.Needs.{needs}
 use Rattle.reader.proofs.lines.lines_size.Statement.{statement}
 use Rattle.reader.proofs.lines.lines_size.Tie as tie
+use Rattle.format.proofs.Sound.{none}
+use Rattle.laws.proofs.Elements.{length-mapped}
 
 abbrev Inv-loop : tie.InvT-loop
 Inv-loop m all6 q₀ j₀ q j = (j ≤ m) × (q ≤ 2048 * j) × (all sound (drop j (take m all6)) ≡ true) × (size (take m all6) ≡ q + size (drop j (take m all6)))
@@ -31,11 +32,11 @@ width-requires : tie.Need-width-requires Inv-loop μ-loop
 width-requires c κs =
     let a = c .before .before .before .before .args in
     let k = c .before .before .loop in
-    let n : length (a .ts .all) ≡ 6 = search (needs, laws.length-mapped) in
+    let n : length (a .ts .all) ≡ 6 = search (needs, length-mapped) in
     let T = take (a .ts .m) (a .ts .all) in
-    let t = getD (a .ts .all) (k .j) laws.none in
-    let u = laws.turn-at (a .ts .all) (a .ts .m) (k .j) laws.none n (omega arith) (omega arith) in
-    laws.sound-turn T (k .j) laws.none t (u .inside) (u .same) (k .inv .2) .0
+    let t = getD (a .ts .all) (k .j) none in
+    let u = laws.turn-at (a .ts .all) (a .ts .m) (k .j) none n (omega arith) (omega arith) in
+    laws.sound-turn T (k .j) none t (u .inside) (u .same) (k .inv .2) .0
 
 add-q : tie.Need-add-q Inv-loop μ-loop
 add-q c = omega (arith, c .width .ensures .1)
@@ -50,20 +51,20 @@ loop-again : tie.Need-loop-again Inv-loop μ-loop
 loop-again c =
     let a = c .before .before .before .before .before .args in
     let k = c .before .before .before .loop in
-    let n : length (a .ts .all) ≡ 6 = search (needs, laws.length-mapped) in
+    let n : length (a .ts .all) ≡ 6 = search (needs, length-mapped) in
     let T = take (a .ts .m) (a .ts .all) in
-    let t = getD (a .ts .all) (k .j) laws.none in
-    let u = laws.turn-at (a .ts .all) (a .ts .m) (k .j) laws.none n (omega arith) (omega arith) in
-    let s = laws.sound-turn T (k .j) laws.none t (u .inside) (u .same) (k .inv .2) in
+    let t = getD (a .ts .all) (k .j) none in
+    let u = laws.turn-at (a .ts .all) (a .ts .m) (k .j) none n (omega arith) (omega arith) in
+    let s = laws.sound-turn T (k .j) none t (u .inside) (u .same) (k .inv .2) in
     let w = c .width .ensures in
-    let z = laws.size-turn T (k .j) laws.none t (u .inside) (u .same) (k .q) _ (k .inv .3) in
+    let z = laws.size-turn T (k .j) none t (u .inside) (u .same) (k .q) _ (k .inv .3) in
     (omega arith, omega (arith, w .1), s .1, omega (arith, w .0, z))
 
 returns : tie.Need-returns Inv-loop μ-loop
 returns c =
     let a = c .before .before .before .args in
     let k = c .before .loop in
-    let n : length (a .ts .all) ≡ 6 = search (needs, laws.length-mapped) in
+    let n : length (a .ts .all) ≡ 6 = search (needs, length-mapped) in
     (laws.size-done (take (a .ts .m) (a .ts .all)) (k .j) (laws.lines-end (a .ts .all) (a .ts .m) (k .j) n (omega arith) (omega arith)) (k .q) _ (k .inv .3), omega arith)
 
 pub lines-size-spec : {M : Type 1} → statement M

@@ -2,7 +2,6 @@
 use mathlib.Core.Path.{_≡_, sym, ap, _∙_}
 use denote.Ref.{now}
 use Rattle.laws.proofs.Cases.{if-yes, if-no}
-use Rattle.packet.specs.declared.Form.the-variants as form
 use Rattle.packet.specs.Table.{typeOf}
 use Rattle.packet.specs.Reading.{formIn, countOf}
 use borrow.Author.Tests.{eq-eqb, ne-eqb}

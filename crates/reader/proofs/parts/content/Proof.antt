@@ -1,5 +1,4 @@
 -- `reader::parts::content` meets its contract. Assumes nothing.
-use Rattle.packet.specs.declared.Form.the-variants as form
 use Rattle.packet.specs.Reading.{frontIn}
 use borrow.Author.Needs.{needs}
 use Rattle.reader.proofs.parts.content.Statement.{statement}

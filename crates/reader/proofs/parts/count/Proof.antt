@@ -2,7 +2,6 @@
 use mathlib.Core.Path.{_∙_}
 use denote.Ref.{now}
 use native.Mathlib.Omega.{arith}
-use Rattle.packet.specs.declared.Form.the-variants as form
 use Rattle.reader.proofs.Whole as whole
 use borrow.Author.Needs.{needs}
 use Rattle.reader.proofs.parts.count.Statement.{statement}

@@ -4,11 +4,10 @@ use Prim.Native.Nat.{ℕ, _+_}
 use denote.Ref.{now}
 use native.Mathlib.Omega.{arith}
 use Rattle.laws.specs.Bits.{at, bits}
-use Rattle.format.specs.Format.{size}
+use Rattle.format.specs.Format.{size, sound}
 use Rattle.packet.specs.Table.{rowOf}
 use Rattle.reader.proofs.Rows as rows
 use Rattle.laws.specs.Scan.{all}
-use Rattle.reader.specs.Sound.{sound}
 use borrow.Author.Needs.{needs}
 use Rattle.reader.proofs.parts.count_in.Statement.{statement}
 use Rattle.reader.proofs.parts.count_in.Tie as tie

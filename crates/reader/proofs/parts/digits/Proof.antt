@@ -1,7 +1,6 @@
 -- `reader::parts::digits` meets its contract. Assumes nothing.
 use denote.Ref.{now}
 use native.Mathlib.Omega.{arith}
-use Rattle.packet.specs.declared.Form.the-variants as form
 use Rattle.packet.specs.Reading.{frontIn, backIn}
 use Rattle.reader.proofs.Whole as whole
 use borrow.Author.Needs.{needs}

@@ -1,7 +1,6 @@
 -- `reader::parts::lead` meets its contract. Assumes nothing.
 use mathlib.Core.Path.{ap, _∙_}
 use Rattle.packet.specs.declared.Form.{Form}
-use Rattle.packet.specs.declared.Form.the-variants as form
 use Rattle.packet.specs.Table.{rowOf}
 use Rattle.packet.specs.Reading.{partAt}
 use borrow.Author.Needs.{needs}

@@ -1,10 +1,9 @@
 -- `reader::parts::lead_of` meets its contract. Assumes nothing.
 use mathlib.Core.Path.{sym, ap, _∙_}
 use native.Mathlib.Omega.{arith}
-use Rattle.format.specs.Format.{size}
+use Rattle.format.specs.Format.{size, sound}
 use Rattle.reader.proofs.Rows as rows
 use Rattle.laws.specs.Scan.{all}
-use Rattle.reader.specs.Sound.{sound}
 use borrow.Author.Needs.{needs}
 use Rattle.reader.proofs.parts.lead_of.Statement.{statement}
 use Rattle.reader.proofs.parts.lead_of.Tie as tie

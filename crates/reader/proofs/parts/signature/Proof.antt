@@ -6,8 +6,6 @@ use denote.Ref.{now}
 use native.Mathlib.Omega.{arith}
 use Rattle.laws.specs.Bits.{run, bits}
 use Rattle.reader.proofs.Rows as rows
-use Prim.Native.Nat.{ℕ, _*_}
-use Rattle.laws.proofs.Bits.{length-run}
 use borrow.Author.Needs.{needs}
 use Rattle.reader.proofs.parts.signature.Statement.{statement}
 use Rattle.reader.proofs.parts.signature.Tie as tie

@@ -5,8 +5,6 @@ use mathlib.Core.Path.{ap, _∙_}
 use denote.Ref.{now}
 use native.Mathlib.Omega.{arith}
 use Rattle.laws.specs.Bits.{at, bits}
-use Prim.Native.Nat.{ℕ, _*_}
-use Rattle.laws.proofs.Cases.{if-yes}
 use Rattle.format.proofs.Leaves.{reached}
 use borrow.Author.Needs.{needs}
 use Rattle.reader.proofs.parts.time.Statement.{statement}

@@ -3,18 +3,14 @@ use mathlib.Core.Path.{sym, ap, _∙_}
 use mathlib.Core.List.{[]}
 use denote.Ref.{now}
 use native.Mathlib.Omega.{arith}
-use Rattle.packet.specs.declared.Form.the-variants as form
 use Rattle.packet.specs.Table.{typeOf}
-use Rattle.packet.specs.Reading.{formIn}
-use borrow.Author.Tests.{eq-eqb, ne-eqb}
+use Rattle.packet.specs.Reading.{formIn, readAnswer}
+use borrow.Author.Tests.{eq-eqb, ne-eqb, not-true, not-false}
 use Rattle.reader.proofs.Whole as whole
 use mathlib.Core.Bool.{not}
-use borrow.Author.Tests.{not-true, not-false}
-use Rattle.laws.proofs.Passed.{no-case}
-use Rattle.laws.proofs.Refusals.{stop, pass}
+use Rattle.laws.proofs.Refusals.{stop, pass, none-left}
 use Rattle.laws.proofs.Cases.{or-yes, or-no}
 use Rattle.packet.specs.Content.{noSuchDay}
-use Rattle.packet.specs.Reading.{readAnswer}
 use borrow.Author.Needs.{needs}
 use Rattle.reader.proofs.tests.answer.Statement.{statement}
 use Rattle.reader.proofs.tests.answer.Tie as tie
@@ -92,7 +88,7 @@ returns-8 : tie.Need-returns-8
 unfolding readAnswer
 returns-8 c =
     let b = now (c .before .before .before .before .before .before .before .before .before .before .before .before .before .before .before .before .before .args .b) in
-    sym (pass 20 _ (sym (c .before .before .before .before .before .before .before .before .before .before .before .before .before .before .before .size-bad .ensures) ∙ c .before .before .before .before .before .before .before .before .before .before .before .before .before .before .if1 .left) ∙ pass 23 _ (ne-eqb (typeOf (formIn b)) 31 (λ h. c .before .before .before .before .before .before .before .before .before .before .before .if2 .left (c .before .before .before .before .before .before .before .before .before .before .before .before .type-of .ensures ∙ ap typeOf (c .before .before .before .before .before .before .before .before .before .before .before .before .before .form .ensures) ∙ h))) ∙ pass 26 _ (sym (c .before .before .before .before .before .before .before .before .before .before .length-bad .ensures) ∙ c .before .before .before .before .before .before .before .before .before .if3 .left) ∙ pass 24 _ (ap not (sym (c .before .before .before .before .before .before .before .before .packet-fine .ensures) ∙ not-false (c .before .before .before .before .before .before .before .before .packet-fine .result) (c .before .before .before .before .before .before .before .if4 .left))) ∙ pass 25 _ (ap not (sym (c .before .before .before .before .before .before .packet-fine2 .ensures) ∙ not-false (c .before .before .before .before .before .before .packet-fine2 .result) (c .before .before .before .before .before .if5 .left))) ∙ pass 27 [] (or-no _ (ap not (sym (c .before .before .before .before .packet-fine3 .ensures) ∙ not-false (c .before .before .before .before .packet-fine3 .result) (c .before .before .before .if6 .left))) ∙ sym (c .before .no-such-day .ensures ∙ ap noSuchDay (c .before .before .content .ensures)) ∙ c .if7 .left) ∙ no-case)
+    sym (pass 20 _ (sym (c .before .before .before .before .before .before .before .before .before .before .before .before .before .before .before .size-bad .ensures) ∙ c .before .before .before .before .before .before .before .before .before .before .before .before .before .before .if1 .left) ∙ pass 23 _ (ne-eqb (typeOf (formIn b)) 31 (λ h. c .before .before .before .before .before .before .before .before .before .before .before .if2 .left (c .before .before .before .before .before .before .before .before .before .before .before .before .type-of .ensures ∙ ap typeOf (c .before .before .before .before .before .before .before .before .before .before .before .before .before .form .ensures) ∙ h))) ∙ pass 26 _ (sym (c .before .before .before .before .before .before .before .before .before .before .length-bad .ensures) ∙ c .before .before .before .before .before .before .before .before .before .if3 .left) ∙ pass 24 _ (ap not (sym (c .before .before .before .before .before .before .before .before .packet-fine .ensures) ∙ not-false (c .before .before .before .before .before .before .before .before .packet-fine .result) (c .before .before .before .before .before .before .before .if4 .left))) ∙ pass 25 _ (ap not (sym (c .before .before .before .before .before .before .packet-fine2 .ensures) ∙ not-false (c .before .before .before .before .before .before .packet-fine2 .result) (c .before .before .before .before .before .if5 .left))) ∙ pass 27 [] (or-no _ (ap not (sym (c .before .before .before .before .packet-fine3 .ensures) ∙ not-false (c .before .before .before .before .packet-fine3 .result) (c .before .before .before .if6 .left))) ∙ sym (c .before .no-such-day .ensures ∙ ap noSuchDay (c .before .before .content .ensures)) ∙ c .if7 .left) ∙ none-left)
 
 pub answer-spec : {M : Type 1} → statement M
 answer-spec =

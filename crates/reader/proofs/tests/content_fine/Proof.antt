@@ -5,17 +5,14 @@ use Prim.Native.Nat.{ℕ, _+_, _*_}
 use denote.Ref.{now}
 use native.Mathlib.Omega.{arith}
 use Rattle.laws.specs.Bits.{bits}
-use Rattle.format.specs.Format.{decode, size, times}
+use Rattle.format.specs.Format.{decode, size, times, fine, sound}
 use Rattle.packet.specs.Table.{rowOf}
 use Rattle.packet.specs.Reading.{partAt}
 use Rattle.reader.proofs.Rows as rows
 use Rattle.reader.proofs.Whole as whole
 use borrow.Author.Tests.{not-true, not-false}
 use Rattle.laws.specs.Scan.{all}
-use Rattle.laws.specs.Refusals.{first}
 use Rattle.laws.proofs.Cases.{and-yes, and-no}
-use Rattle.format.specs.Format.{fine}
-use Rattle.reader.specs.Sound.{sound}
 use Rattle.format.specs.declared.Line.{Line}
 use borrow.Author.Needs.{needs}
 use Rattle.reader.proofs.tests.content_fine.Statement.{statement}

@@ -4,12 +4,10 @@ use mathlib.Core.List.{List}
 use denote.Ref.{now}
 use native.Mathlib.Omega.{arith}
 use Rattle.laws.specs.Bits.{bits}
-use Rattle.format.specs.Format.{decode, size, times}
+use Rattle.format.specs.Format.{decode, size, times, fine, sound}
 use borrow.Author.Tests.{not-true, not-false}
 use Rattle.laws.specs.Scan.{all}
 use Rattle.laws.proofs.Cases.{and-yes, and-no}
-use Rattle.format.specs.Format.{fine}
-use Rattle.reader.specs.Sound.{sound}
 use Rattle.format.specs.declared.Line.{Line}
 use borrow.Author.Needs.{needs}
 use Rattle.reader.proofs.tests.frame_fine.Statement.{statement}

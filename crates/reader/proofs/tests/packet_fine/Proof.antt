@@ -2,7 +2,6 @@
 use mathlib.Core.Path.{sym, _∙_}
 use denote.Ref.{now}
 use native.Mathlib.Omega.{arith}
-use Rattle.packet.specs.declared.Form.the-variants as form
 use Rattle.reader.proofs.Whole as whole
 use borrow.Author.Tests.{not-true, not-false}
 use Rattle.laws.proofs.Cases.{and-yes, and-no}

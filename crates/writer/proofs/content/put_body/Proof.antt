@@ -1,5 +1,5 @@
 -- `writer::content::put_body` meets its contract. Assumes nothing.
-use Rattle.writer.proofs.Contents.{small, entry-need, count-same, entries-body}
+use Rattle.writer.proofs.Contents.{small, entry-need, count-same, entries-body, octets-body}
 use Rattle.writer.proofs.Shapes.{can-put-rows, have-put-rows}
 use mathlib.Core.Path.{_≡_, sym, ap, _∙_, subst}
 use mathlib.Core.List.{List}
@@ -13,7 +13,6 @@ use Rattle.packet.specs.Content.{formFor}
 use Rattle.packet.specs.Writing.{rowFor}
 use Rattle.writer.specs.Puts.{After}
 use Rattle.writer.specs.Parts.{bodyBits}
-use Rattle.writer.proofs.Contents.{octets-body}
 use borrow.Author.Needs.{needs}
 use Rattle.writer.proofs.content.put_body.Statement.{statement}
 use Rattle.writer.proofs.content.put_body.Tie as tie

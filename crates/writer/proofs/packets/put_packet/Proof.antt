@@ -1,8 +1,7 @@
 -- `writer::packets::put_packet` meets its contract. Assumes nothing.
-use mathlib.Core.Path.{subst}
+use mathlib.Core.Path.{subst, _≡_, ap}
 use Rattle.writer.specs.Puts.{After}
 use Rattle.writer.specs.Parts.{headBits}
-use mathlib.Core.Path.{_≡_, ap}
 use Prim.Native.Nat.{ℕ, _*_}
 use native.Mathlib.Omega.{arith}
 use lib.ListN.{length}

@@ -1,9 +1,8 @@
 -- `writer::puts::number_of` meets its contract. Assumes nothing.
 use mathlib.Core.Path.{sym, _∙_}
-use lib.ListN.{List·getD-eq-default}
+use lib.ListN.{List·getD-eq-default, length}
 use native.Mathlib.Omega.{arith}
 use Prim.Native.Nat.{_≤_}
-use lib.ListN.{length}
 use Rattle.laws.proofs.Cases.{if-yes}
 use borrow.Author.Needs.{needs}
 use Rattle.writer.proofs.puts.number_of.Statement.{statement}

@@ -1,7 +1,8 @@
 -- `writer::puts::put_line` meets its contract. Assumes nothing.
 use native.Mathlib.Omega.{arith}
 use Prim.Native.Nat.{_-_}
-use Rattle.writer.proofs.Line.{Going, sound-is, going-first, going-turn, going-last}
+use Rattle.writer.proofs.Line.{Going, going-first, going-turn, going-last}
+use Rattle.format.proofs.Sound.{sound-is}
 use borrow.Author.Needs.{needs}
 use Rattle.writer.proofs.puts.put_line.Statement.{statement}
 use Rattle.writer.proofs.puts.put_line.Tie as tie

@@ -1,7 +1,7 @@
 -- `writer::puts::width` meets its contract. Assumes nothing.
 use mathlib.Core.Path.{refl}
 use native.Mathlib.Omega.{arith}
-use Rattle.writer.proofs.Line.{sound-is}
+use Rattle.format.proofs.Sound.{sound-is}
 use Rattle.writer.proofs.puts.width.Statement.{statement}
 use Rattle.writer.proofs.puts.width.Tie as tie
 

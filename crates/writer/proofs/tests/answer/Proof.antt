@@ -1,9 +1,8 @@
 -- `writer::tests::answer` meets its contract. Assumes nothing.
 use lib.ListN.{length}
-use Prim.Native.Nat.{_+_, _*_}
+use Prim.Native.Nat.{_+_, _*_, _≤_}
 use Rattle.writer.specs.Ranges.{bytesOf}
 use mathlib.Core.Path.{_≡_, sym, ap, _∙_}
-use Prim.Native.Nat.{_≤_}
 use native.Mathlib.Omega.{arith}
 use lib.Dec.{ltb}
 use borrow.Author.Tests.{not-true, not-false, ltb-false}

@@ -3,7 +3,6 @@ use mathlib.Core.Path.{_≡_, refl, sym, _∙_}
 use mathlib.Core.Logic.{inl}
 use lib.ListN.{length}
 use borrow.Author.Tests.{not-true, not-false}
-use Rattle.writer.proofs.Whole.{bodied}
 use Rattle.writer.proofs.Digits.{no-digits, no-codes, no-certificate, by-entries}
 use borrow.Author.Needs.{needs}
 use Rattle.writer.proofs.tests.digits_fine.Statement.{statement}

@@ -1,0 +1,156 @@
+-- What it says of a packet that a reader answers 0, and the tests of its lines that follow. Assumes nothing.
+use mathlib.Core.Path.{_≡_, refl, sym, ap, ap₂, _∙_}
+use mathlib.Core.List.{List, [], _∷_}
+use mathlib.Core.Bool.{Bool, true, false, not, _&&_, _||_, or-true}
+use Prim.Native.Nat.{ℕ, _+_, _*_, _-_, _≤_}
+use native.Mathlib.Nat.{zero-mul}
+use native.Mathlib.Omega.{arith}
+use lib.ListN.{length}
+use lib.Dec.{leb, eqb}
+use borrow.Author.Tests.{leb-true, eqb-true, not-false, le-leb, eq-eqb}
+use Rattle.laws.specs.Bits.{at, run, bits}
+use Rattle.laws.specs.Scan.{all}
+use Rattle.laws.proofs.Bits.{at-small}
+use Rattle.laws.proofs.Cases.{and-both, and-yes, and-no, or-both}
+use Rattle.format.specs.declared.Line.{Line}
+use Rattle.format.specs.Format.{just, size, decode, need, inside, lineOk, fine, unmet}
+use Rattle.format.proofs.Tables.{settled}
+use Rattle.packet.specs.declared.Form.{Form}
+use Rattle.packet.specs.declared.Form.the-variants.{Frequencies}
+use Rattle.packet.specs.declared.Sort.{Sort}
+use Rattle.packet.specs.declared.Sort.the-variants as sort
+use Rattle.packet.specs.Table.{Row, rowOf, countLine, countIn, contentLines, code, ending, packet}
+use Rattle.packet.specs.Content.{contentOf, countFor, noSuchDay}
+use Rattle.packet.specs.Reading.{kindIn, lengthIn, codesIn, formIn, contentAt, contentSize, countOf, partAt, tableOf, valuesIn, contentIn, digitsIn, padded, fieldsOf, sizeBad, lengthBad, isUnknown, readAnswer}
+use Rattle.packet.specs.Writing.{lentBad, bodyLost}
+use Rattle.packet.proofs.Sizes.{content-size}
+use Rattle.trips.proofs.Parts as parts
+use Rattle.trips.proofs.Contents as contents
+use Rattle.laws.proofs.Refusals.{not-due}
+
+-- ---- what a reader's 0 says
+pub record Accepted (b : List ℕ) : Type 0 where
+  pub least : 77 + 12 * codesIn b ≤ length b
+  pub most : length b ≤ 250
+  pub field : length b ≡ lengthIn b + 2
+  pub known : isUnknown (formIn b) ≡ false
+  pub right : size (contentLines (rowOf (formIn b)) (countOf b)) ≡ 8 * contentSize b
+  pub c24 : fine 24 (tableOf b) (valuesIn b) ≡ true
+  pub c25 : fine 25 (tableOf b) (valuesIn b) ≡ true
+  pub c27 : fine 27 (tableOf b) (valuesIn b) ≡ true
+  pub day : noSuchDay (contentIn b) ≡ false
+
+pub accepted : (b : List ℕ) → readAnswer b ≡ 0 → Accepted b
+unfolding readAnswer sizeBad lengthBad
+accepted b e =
+    let p = not-due _ 20 _ (λ h. omega arith) e in
+    let q = not-due (isUnknown (formIn b)) 23 _ (λ h. omega arith) (p .1) in
+    let r = not-due _ 26 _ (λ h. omega arith) (q .1) in
+    let s = not-due _ 24 _ (λ h. omega arith) (r .1) in
+    let t = not-due _ 25 _ (λ h. omega arith) (s .1) in
+    let w = not-due _ 27 _ (λ h. omega arith) (t .1) in
+    let p1 = and-both (leb 77 (length b) && leb (length b) 250) _ (not-false _ (p .0)) in
+    let p2 = and-both (leb 77 (length b)) (leb (length b) 250) (p1 .0) in
+    let p3 = and-both (eqb (length b) (lengthIn b + 2)) (leb (77 + 12 * codesIn b) (length b)) (p1 .1) in
+    let w1 = or-both (not (fine 27 (tableOf b) (valuesIn b))) (noSuchDay (contentIn b)) (w .0) in
+    record {
+      least = leb-true _ _ (p3 .1);
+      most = leb-true _ _ (p2 .1);
+      field = eqb-true _ _ (p3 .0);
+      known = q .0;
+      right = eqb-true _ _ (not-false _ (r .0));
+      c24 = not-false _ (s .0);
+      c25 = not-false _ (t .0);
+      c27 = not-false _ (w1 .0);
+      day = w1 .1;
+    }
+
+pub of-count : (b : List ℕ) → countOf b ≡ countIn (rowOf (formIn b)) (bits b) (contentAt b) (contentSize b)
+unfolding countOf
+of-count b = refl
+
+pub code-26 : all (unmet 26) code ≡ true
+unfolding all
+code-26 = refl
+
+pub ending-26 : all (unmet 26) ending ≡ true
+unfolding all
+ending-26 = refl
+
+same-26 : (w x : ℕ) (y : ℕ) → y ≡ x → lineOk 26 (just w x) (y ∷ []) ≡ true
+unfolding inside
+same-26 w x y e = rw (e, le-leb x x (omega arith))
+
+pub heading : (t p n : ℕ) (l : List ℕ) (R : List Line) → at l 0 5 ≡ t → at l 5 11 ≡ p → at l 16 8 ≡ n → fine 26 R (decode R l 24) ≡ true → fine 26 (just 5 t ∷ just 11 p ∷ just 8 n ∷ R) (decode (just 5 t ∷ just 11 p ∷ just 8 n ∷ R) l 0) ≡ true
+unfolding fine decode run
+heading t p n l R a b c e = and-yes _ (same-26 5 t (at l 0 5) a) ∙ and-yes _ (same-26 11 p (at l 5 11) b) ∙ and-yes _ (same-26 8 n (at l 16 8) c) ∙ e
+
+pub count-26 : (r : Row) (l : List ℕ) (q m k : ℕ) → k ≡ countIn r l q m → fine 26 (countLine (r .sort) k) (decode (countLine (r .sort) k) l (q + size (r .before))) ≡ true
+unfolding fine decode run
+count-26 r l q m k h = go (r .sort) refl
+  where
+    go : (s : Sort) → r .sort ≡ s → fine 26 (countLine (r .sort) k) (decode (countLine (r .sort) k) l (q + size (r .before))) ≡ true
+    go sort.Fixed e = rw e
+    go sort.Counted e = rw e (and-yes true (same-26 8 k (at l (q + size (r .before)) 8) (sym (rw e at h))))
+    go sort.Raw e = rw e
+    go sort.Unknown e = rw e
+
+pub settled-table : (b : List ℕ) → all settled (tableOf b) ≡ true
+unfolding tableOf all
+settled-table b =
+    let g = contents.fair (formIn b) in
+    let r = rowOf (formIn b) in
+    let j : (w x : ℕ) → settled (just w x) ≡ true = λ w x. ap (λ (t : Bool). t && true) (eq-eqb x x refl) in
+    parts.all-packet settled r (kindIn b) (length b) (codesIn b) (countOf b) (j 5 (kindIn b)) (j 11 (length b - 2)) (j 8 (codesIn b)) (parts.all-count settled (r .sort) (countOf b) (j 8 (countOf b))) refl refl (g .settled1) (g .settled2) (g .settled3)
+
+pub table-25 : (b : List ℕ) → fine 25 (tableOf b) (valuesIn b) ≡ true → fine 25 (packet (rowOf (formIn b)) (kindIn b) (length b) (codesIn b) (countOf b)) (decode (packet (rowOf (formIn b)) (kindIn b) (length b) (codesIn b) (countOf b)) (bits b) 0) ≡ true
+unfolding tableOf
+table-25 b e = e
+
+pub digits-of : (b : List ℕ) → inside 0 9 (padded 35 (digitsIn b)) ≡ true → inside 0 9 (fieldsOf b .digits) ≡ true
+unfolding fieldsOf
+digits-of b e = e
+
+pub later-true : (x y : Bool) → y ≡ true → (x || y) ≡ true
+later-true x y e = ap (λ (t : Bool). x || t) e ∙ or-true x
+
+pub only-none : (t n : ℕ) → (t ≡ 1 → n ≡ 0) → (eqb t 1 && not (eqb n 0)) ≡ false
+only-none t n h = go (eqb t 1) refl
+  where
+    go : (x : Bool) → eqb t 1 ≡ x → (eqb t 1 && not (eqb n 0)) ≡ false
+    go true e = ap₂ (λ (x y : Bool). x && not y) e (eq-eqb n 0 (h (eqb-true t 1 e)))
+    go false e = and-no _ e
+
+pub lent-right : (r : Row) (b : List ℕ) (k : ℕ) (body : List ℕ) (q m : ℕ) → k ≡ countIn r (bits b) q m → length body ≡ k * need (r .each) → lentBad (r .sort) k (need (r .each)) body ≡ false
+lent-right r b k body q m h n = go (r .sort) refl
+  where
+    go : (s : Sort) → r .sort ≡ s → lentBad (r .sort) k (need (r .each)) body ≡ false
+    go sort.Fixed e = rw e
+    go sort.Counted e =
+        let c : k ≡ at (bits b) (q + size (r .before)) 8 = rw e at h in
+        rw e (ap not (ap₂ _&&_ (le-leb k 255 (omega (arith, c, at-small b (q + size (r .before)) 8 8 (omega arith)))) (eq-eqb (length body) (k * need (r .each)) n)))
+    go sort.Raw e = rw e
+    go sort.Unknown e = rw e
+
+pub body-right : (r : Row) (b : List ℕ) (k : ℕ) (body : List ℕ) (q m : ℕ) → k ≡ countIn r (bits b) q m → length body ≡ k * need (r .each) → bodyLost (r .sort) body ≡ false
+body-right r b k body q m h n = go (r .sort) refl
+  where
+    go : (s : Sort) → r .sort ≡ s → bodyLost (r .sort) body ≡ false
+    go sort.Fixed e =
+        let c : k ≡ 0 = rw e at h in
+        rw e (ap not (eq-eqb (length body) 0 (n ∙ ap (λ (x : ℕ). x * need (r .each)) c ∙ zero-mul (need (r .each)))))
+    go sort.Counted e = rw e
+    go sort.Raw e = rw e
+    go sort.Unknown e = rw e
+
+pub entries-few : (f : Form) (k : ℕ) (body : List ℕ) (m : ℕ) → f ≡ Frequencies → size (contentLines (rowOf f) k) ≡ 8 * m → length body ≡ k * need (rowOf f .each) → m ≤ 173 → length body + 0 ≤ 272
+unfolding size need partAt
+entries-few f k body m e h n l =
+    let s : size (contentLines (rowOf Frequencies) k) ≡ 8 + k * 40 + 0 = content-size (rowOf Frequencies) k in
+    let s1 : size (contentLines (rowOf f) k) ≡ 8 + k * 40 + 0 = ap (λ (g : Form). size (contentLines (rowOf g) k)) e ∙ s in
+    let n1 : length body ≡ k * 8 = n ∙ ap (λ (g : Form). k * need (rowOf g .each)) e in
+    omega arith
+
+pub entries-count : (f : Form) (xs : List ℕ) (k : ℕ) (body : List ℕ) → f ≡ Frequencies → length body ≡ k * need (rowOf f .each) → countFor (contentOf f xs k) [] * 8 ≡ length body
+unfolding need
+entries-count f xs k body e n = ap (λ (g : Form). countFor (contentOf g xs k) [] * 8) e ∙ sym (n ∙ ap (λ (g : Form). k * need (rowOf g .each)) e)

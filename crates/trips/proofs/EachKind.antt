@@ -1,0 +1,155 @@
+-- Contents made of what was read, a clause for each kind: their kind, numbers, count and digits. Assumes nothing.
+use mathlib.Core.Path.{_≡_, refl, sym}
+use mathlib.Core.Logic.{_⊎_, inl, inr}
+use mathlib.Core.List.{List, [], _∷_}
+use mathlib.Core.Bool.{true, false, true≢false}
+use Prim.Native.Nat.{ℕ, _+_, _*_, _-_, _≤_}
+use native.Mathlib.Omega.{arith}
+use lib.ListN.{length, take, drop}
+use Rattle.laws.specs.Bits.{run}
+use Rattle.laws.specs.Scan.{all}
+use Rattle.laws.proofs.Cases.{and-left}
+use Rattle.format.specs.Format.{decode, need, flat, inside, fine, unmet}
+use Rattle.packet.specs.declared.Form.{Form}
+use Rattle.packet.specs.declared.Form.the-variants.{Frequencies, Address, Keep, Clock, Reset, Factory, Drill, Text, Command, Hold, Raw, Unknown}
+use Rattle.packet.specs.Table.{rowOf, countIn}
+use Rattle.packet.specs.Content.{contentOf, formFor, numbersOf, numbersIn, countFor}
+use Rattle.packet.specs.Reading.{isUnknown}
+
+-- ---- a clause a kind
+-- a content of a known kind is of that kind
+pub form-of : (f : Form) (xs : List ℕ) (k : ℕ) → isUnknown f ≡ false → formFor (contentOf f xs k) ≡ f
+form-of Frequencies xs k h = refl
+form-of Address xs k h = refl
+form-of Keep xs k h = refl
+form-of Clock xs k h = refl
+form-of Reset xs k h = refl
+form-of Factory xs k h = refl
+form-of Drill xs k h = refl
+form-of Text xs k h = refl
+form-of Command xs k h = refl
+form-of Hold xs k h = refl
+form-of Raw xs k h = refl
+form-of Unknown xs k h = absurd (true≢false h)
+
+-- its numbers are the first of what was read
+pub numbers-back : (f : Form) (xs : List ℕ) (k : ℕ) → numbersIn f ≤ length xs → numbersOf (contentOf f xs k) ≡ take (numbersIn f) xs
+numbers-back Frequencies xs k h = refl
+numbers-back Address xs k h = refl
+numbers-back Keep [] k h = absurd (omega arith)
+numbers-back Keep (x ∷ []) k h = absurd (omega arith)
+numbers-back Keep (x ∷ y ∷ xs) k h = refl
+numbers-back Clock [] k h = absurd (omega arith)
+numbers-back Clock (a ∷ []) k h = absurd (omega arith)
+numbers-back Clock (a ∷ b ∷ []) k h = absurd (omega arith)
+numbers-back Clock (a ∷ b ∷ c ∷ []) k h = absurd (omega arith)
+numbers-back Clock (a ∷ b ∷ c ∷ d ∷ []) k h = absurd (omega arith)
+numbers-back Clock (a ∷ b ∷ c ∷ d ∷ e ∷ []) k h = absurd (omega arith)
+numbers-back Clock (a ∷ b ∷ c ∷ d ∷ e ∷ g ∷ xs) k h = refl
+numbers-back Reset [] k h = absurd (omega arith)
+numbers-back Reset (x ∷ xs) k h = refl
+numbers-back Factory xs k h = refl
+numbers-back Drill [] k h = absurd (omega arith)
+numbers-back Drill (x ∷ xs) k h = refl
+numbers-back Text [] k h = absurd (omega arith)
+numbers-back Text (x ∷ []) k h = absurd (omega arith)
+numbers-back Text (x ∷ y ∷ xs) k h = refl
+numbers-back Command xs k h = refl
+numbers-back Hold [] k h = absurd (omega arith)
+numbers-back Hold (x ∷ xs) k h = refl
+numbers-back Raw xs k h = refl
+numbers-back Unknown xs k h = refl
+
+-- its count is the one that was read, and that of what is lent
+pub count-for : (f : Form) (xs body l : List ℕ) (q m k : ℕ) → isUnknown f ≡ false → k ≡ countIn (rowOf f) l q m → length body ≡ k * need (rowOf f .each) → countFor (contentOf f xs k) body ≡ k
+unfolding need
+count-for Frequencies xs body l q m k h e n = refl
+count-for Address xs body l q m k h e n = refl
+count-for Keep xs body l q m k h e n = sym e
+count-for Clock xs body l q m k h e n = sym e
+count-for Reset xs body l q m k h e n = sym e
+count-for Factory xs body l q m k h e n = sym e
+count-for Drill xs body l q m k h e n = sym e
+count-for Text xs body l q m k h e n = refl
+count-for Command xs body l q m k h e n = refl
+count-for Hold xs body l q m k h e n = sym e
+count-for Raw xs body l q m k h e n = omega (arith, n)
+count-for Unknown xs body l q m k h e n = absurd (true≢false h)
+
+pub numbers-few : (f : Form) → numbersIn f ≤ need (rowOf f .before)
+unfolding need
+numbers-few Frequencies = omega arith
+numbers-few Address = omega arith
+numbers-few Keep = omega arith
+numbers-few Clock = omega arith
+numbers-few Reset = omega arith
+numbers-few Factory = omega arith
+numbers-few Drill = omega arith
+numbers-few Text = omega arith
+numbers-few Command = omega arith
+numbers-few Hold = omega arith
+numbers-few Raw = omega arith
+numbers-few Unknown = omega arith
+
+-- no kind has digits both before its bytes and after them, and none more than 35
+pub places : (f : Form) → ((need (rowOf f .before) ≡ numbersIn f) ⊎ (need (rowOf f .after) ≡ 0)) × (need (rowOf f .before) - numbersIn f + need (rowOf f .after) ≤ 35)
+unfolding need
+places Frequencies = (inl refl, omega arith)
+places Address = (inl refl, omega arith)
+places Keep = (inl refl, omega arith)
+places Clock = (inl refl, omega arith)
+places Reset = (inr refl, omega arith)
+places Factory = (inl refl, omega arith)
+places Drill = (inr refl, omega arith)
+places Text = (inr refl, omega arith)
+places Command = (inl refl, omega arith)
+places Hold = (inl refl, omega arith)
+places Raw = (inl refl, omega arith)
+places Unknown = (inl refl, omega arith)
+
+-- digits without a fault of 25 are at most 9
+pub front-digits : (f : Form) (l : List ℕ) (q : ℕ) → fine 25 (rowOf f .before) (decode (rowOf f .before) l q) ≡ true → inside 0 9 (drop (numbersIn f) (flat (rowOf f .before) (decode (rowOf f .before) l q))) ≡ true
+unfolding fine decode flat run inside
+front-digits Frequencies l q h = refl
+front-digits Address l q h = refl
+front-digits Keep l q h = refl
+front-digits Clock l q h = refl
+front-digits Reset l q h = and-left _ true h
+front-digits Factory l q h = refl
+front-digits Drill l q h = and-left _ true h
+front-digits Text l q h = and-left _ true h
+front-digits Command l q h = refl
+front-digits Hold l q h = refl
+front-digits Raw l q h = refl
+front-digits Unknown l q h = refl
+
+pub back-digits : (f : Form) (l : List ℕ) (q : ℕ) → fine 25 (rowOf f .after) (decode (rowOf f .after) l q) ≡ true → inside 0 9 (flat (rowOf f .after) (decode (rowOf f .after) l q)) ≡ true
+unfolding fine decode flat run inside
+back-digits Frequencies l q h = refl
+back-digits Address l q h = and-left _ true h
+back-digits Keep l q h = refl
+back-digits Clock l q h = refl
+back-digits Reset l q h = refl
+back-digits Factory l q h = refl
+back-digits Drill l q h = refl
+back-digits Text l q h = refl
+back-digits Command l q h = refl
+back-digits Hold l q h = refl
+back-digits Raw l q h = refl
+back-digits Unknown l q h = refl
+
+-- only the heading and the count are due 26
+pub unmet-26 : (f : Form) → (all (unmet 26) (rowOf f .before) ≡ true) × ((all (unmet 26) (rowOf f .each) ≡ true) × (all (unmet 26) (rowOf f .after) ≡ true))
+unfolding all
+unmet-26 Frequencies = (refl, (refl, refl))
+unmet-26 Address = (refl, (refl, refl))
+unmet-26 Keep = (refl, (refl, refl))
+unmet-26 Clock = (refl, (refl, refl))
+unmet-26 Reset = (refl, (refl, refl))
+unmet-26 Factory = (refl, (refl, refl))
+unmet-26 Drill = (refl, (refl, refl))
+unmet-26 Text = (refl, (refl, refl))
+unmet-26 Command = (refl, (refl, refl))
+unmet-26 Hold = (refl, (refl, refl))
+unmet-26 Raw = (refl, (refl, refl))
+unmet-26 Unknown = (refl, (refl, refl))

@@ -1,0 +1,160 @@
+-- What it says of fields, codes and a body that a writer answers 0, and how long their parts are. Assumes nothing.
+use mathlib.Core.Path.{_≡_, refl, sym, ap, _∙_}
+use mathlib.Core.List.{List, [], _∷_}
+use mathlib.Core.Bool.{Bool, true, false, not, _&&_, true≢false}
+use Prim.Native.Nat.{ℕ, _+_, _*_, _/_, _%_, _<_, _≤_}
+use native.Mathlib.Nat.{mul-assoc}
+use native.Mathlib.Omega.{arith}
+use lib.ListN.{length, take, drop, length-append}
+use lib.Seq.{length-take-le, take-all}
+use lib.Dec.{leb, ltb, eqb}
+use borrow.Author.Tests.{leb-true, eqb-true, ltb-true, ltb-false, not-false, lt-ltb}
+use Rattle.laws.specs.Scan.{all}
+use Rattle.laws.proofs.Cases.{and-both, or-both}
+use Rattle.format.specs.Format.{just, octets, size, need, inside, fine, unmet}
+use Rattle.packet.specs.declared.Form.{Form}
+use Rattle.packet.specs.declared.Form.the-variants.{Unknown}
+use Rattle.packet.specs.declared.Content.{Content}
+use Rattle.packet.specs.declared.Content.the-variants as content
+use Rattle.packet.specs.declared.Fields.{Fields}
+use Rattle.packet.specs.Table.{formOf, rowOf, countLine, contentLines, code}
+use Rattle.packet.specs.Content.{formFor, numbersOf, countFor, noSuchDay}
+use Rattle.packet.specs.Reading.{isUnknown}
+use Rattle.packet.specs.Writing.{rowFor, digitsBefore, digitsAfter, frontFor, backFor, bodyFor, sizeFor, tableFor, valuesFor, lentBad, countBad, digitBad, otherType, bodyLost, digitsLost, notTaken, writtenAnswer}
+use Rattle.packet.proofs.Forms as forms
+use Rattle.packet.proofs.Sizes.{content-size}
+use Rattle.trips.proofs.Fitting as fitting
+use Rattle.trips.proofs.Contents as contents
+use Rattle.laws.proofs.Refusals.{not-due}
+
+-- ---- what a writer's 0 says
+pub record Taken (f : Fields) (codes body : List ℕ) : Type 0 where
+  pub known : isUnknown (formOf (f .kind)) ≡ false
+  pub few : f .codes ≤ 255
+  pub codes-long : length codes ≡ f .codes * 23
+  pub lent : lentBad (rowFor (f .content) .sort) (countFor (f .content) body) (need (rowFor (f .content) .each)) body ≡ false
+  pub c25 : fine 25 (tableFor f body) (valuesFor f codes body) ≡ true
+  pub form : formOf (f .kind) ≡ formFor (f .content)
+  pub body-kept : bodyLost (rowFor (f .content) .sort) body ≡ false
+  pub digits-kept : inside 0 0 (drop (digitsBefore (f .content) + digitsAfter (f .content)) (f .digits)) ≡ true
+  pub c27 : fine 27 (tableFor f body) (valuesFor f codes body) ≡ true
+  pub day : noSuchDay (f .content) ≡ false
+  pub small : sizeFor f body ≤ 250
+
+pub taken : (f : Fields) (codes body : List ℕ) (room : ℕ) → writtenAnswer f codes body room ≡ 0 → Taken f codes body
+unfolding writtenAnswer countBad digitBad notTaken
+taken f codes body room e =
+    let a = not-due (isUnknown (formOf (f .kind))) 23 _ (λ h. omega arith) e in
+    let b = not-due _ 26 _ (λ h. omega arith) (a .1) in
+    let d = not-due _ 25 _ (λ h. omega arith) (b .1) in
+    let g = not-due _ 27 _ (λ h. omega arith) (d .1) in
+    let h = not-due (ltb 250 (sizeFor f body)) 20 _ (λ h. omega arith) (g .1) in
+    let b1 = or-both (not (leb (f .codes) 255 && eqb (length codes) (f .codes * 23))) _ (b .0) in
+    let b2 = and-both (leb (f .codes) 255) (eqb (length codes) (f .codes * 23)) (not-false _ (b1 .0)) in
+    let d1 = or-both (not (fine 25 (tableFor f body) (valuesFor f codes body))) _ (d .0) in
+    let g1 = or-both (otherType f) _ (g .0) in
+    let g2 = or-both (bodyLost (rowFor (f .content) .sort) body) _ (g1 .1) in
+    let g3 = or-both (digitsLost (f .content) (f .digits)) _ (g2 .1) in
+    let g4 = or-both (eqb (f .kind) 1 && not (eqb (f .codes) 0)) _ (g3 .1) in
+    let g5 = or-both (not (fine 27 (tableFor f body) (valuesFor f codes body))) (noSuchDay (f .content)) (g4 .1) in
+    record {
+      known = a .0;
+      few = leb-true (f .codes) 255 (b2 .0);
+      codes-long = eqb-true (length codes) (f .codes * 23) (b2 .1);
+      lent = b1 .1;
+      c25 = not-false _ (d1 .0);
+      form = forms.same-form (formOf (f .kind)) (formFor (f .content)) (eqb-true _ _ (not-false _ (g1 .0)));
+      body-kept = g2 .0;
+      digits-kept = not-false _ (g3 .0);
+      c27 = not-false _ (g5 .0);
+      day = g5 .1;
+      small = ltb-false 250 (sizeFor f body) (h .0);
+    }
+
+-- so many digits and bytes, and numbers that the bits of the untested lines hold
+pub record Fitted (f : Fields) (codes body : List ℕ) : Type 0 where
+  pub digits-long : length (f .digits) ≡ 35
+  pub certificate-long : length (f .certificate) ≡ 12
+  pub signature-long : length (f .signature) ≡ 64
+  pub bits-hold : fine 0 (tableFor f body) (valuesFor f codes body) ≡ true
+
+-- ---- small facts
+even-mul : (k s : ℕ) → s % 8 ≡ 0 → (k * s) % 8 ≡ 0
+even-mul k s e =
+    let h : s ≡ s / 8 * 8 = omega arith in
+    let g : k * s ≡ k * (s / 8) * 8 = ap (λ (x : ℕ). k * x) h ∙ sym (mul-assoc k (s / 8) 8) in
+    omega (arith, g)
+
+pub content-even : (f : Form) (k : ℕ) → size (contentLines (rowOf f) k) % 8 ≡ 0
+content-even f k =
+    let g = contents.fair f in
+    omega (arith, content-size (rowOf f) k, g .even1, g .even3, even-mul k (size (rowOf f .each)) (g .even2))
+
+-- a type of a known kind has five bits
+pub type-small : (t : ℕ) → isUnknown (formOf t) ≡ false → t < 32
+type-small t e = go (ltb t 25) refl
+  where
+    go : (x : Bool) → ltb t 25 ≡ x → t < 32
+    go true h = omega (arith, ltb-true t 25 h)
+    go false h =
+        let n = ltb-false t 25 h in
+        let z : Unknown ≡ formOf t = forms.above t record { n0 = λ q. omega arith; n1 = λ q. omega arith; n2 = λ q. omega arith; n3 = λ q. omega arith; n12 = λ q. omega arith; n13 = λ q. omega arith; n14 = λ q. omega arith; n15 = λ q. omega arith; n16 = λ q. omega arith; n21 = λ q. omega arith; n11 = λ q. omega arith } n in
+        absurd (true≢false (sym (ap isUnknown (sym z)) ∙ e))
+
+-- what is lent is what the content counts
+pub lent-long : (c : Content) (body : List ℕ) → lentBad (rowFor c .sort) (countFor c body) (need (rowFor c .each)) body ≡ false → bodyLost (rowFor c .sort) body ≡ false → length body ≡ countFor c body * need (rowFor c .each)
+unfolding need
+lent-long content.Raw body a b = omega arith
+lent-long (content.Frequencies k) body a b = eqb-true (length body) (k * 8) (and-both (leb k 255) (eqb (length body) (k * 8)) (not-false _ a) .1)
+lent-long (content.Address m) body a b = eqb-true (length body) (m * 1) (and-both (leb m 255) (eqb (length body) (m * 1)) (not-false _ a) .1)
+lent-long (content.Keep on period) body a b = eqb-true (length body) 0 (not-false _ b)
+lent-long (content.Clock year month day hour minute second) body a b = eqb-true (length body) 0 (not-false _ b)
+lent-long (content.Reset change) body a b = eqb-true (length body) 0 (not-false _ b)
+lent-long content.Factory body a b = eqb-true (length body) 0 (not-false _ b)
+lent-long (content.Drill action) body a b = eqb-true (length body) 0 (not-false _ b)
+lent-long (content.Text kind set t) body a b = eqb-true (length body) (t * 1) (and-both (leb t 255) (eqb (length body) (t * 1)) (not-false _ a) .1)
+lent-long (content.Command k) body a b = eqb-true (length body) (k * 1) (and-both (leb k 255) (eqb (length body) (k * 1)) (not-false _ a) .1)
+lent-long (content.Hold serial) body a b = eqb-true (length body) 0 (not-false _ b)
+
+-- a number of the table has its bits
+tight-8 : (k : ℕ) → k ≤ 255 → all fitting.tight (just 8 k ∷ []) ≡ true
+unfolding all
+tight-8 k h = rw (lt-ltb k 256 (omega arith))
+
+-- a count has eight bits where there is one
+pub count-fits : (c : Content) (body : List ℕ) → lentBad (rowFor c .sort) (countFor c body) (need (rowFor c .each)) body ≡ false → all fitting.tight (countLine (rowFor c .sort) (countFor c body)) ≡ true
+unfolding all
+count-fits content.Raw body a = refl
+count-fits (content.Frequencies k) body a = tight-8 k (leb-true k 255 (and-both (leb k 255) _ (not-false _ a) .0))
+count-fits (content.Address m) body a = tight-8 m (leb-true m 255 (and-both (leb m 255) _ (not-false _ a) .0))
+count-fits (content.Keep on period) body a = refl
+count-fits (content.Clock year month day hour minute second) body a = refl
+count-fits (content.Reset change) body a = refl
+count-fits content.Factory body a = refl
+count-fits (content.Drill action) body a = refl
+count-fits (content.Text kind set t) body a = tight-8 t (leb-true t 255 (and-both (leb t 255) _ (not-false _ a) .0))
+count-fits (content.Command k) body a = tight-8 k (leb-true k 255 (and-both (leb k 255) _ (not-false _ a) .0))
+count-fits (content.Hold serial) body a = refl
+
+-- ---- the numbers are as many as the table needs
+pub front-long : (c : Content) (ds : List ℕ) → length ds ≡ 35 → length (frontFor c ds) ≡ need (rowFor c .before)
+unfolding frontFor
+front-long c ds n =
+    length-append (numbersOf c) (take (digitsBefore c) ds)
+    ∙ omega (arith, length-take-le (digitsBefore c) ds (omega (arith, contents.few-digits c)), contents.numbers-long c, contents.numbers-need c)
+
+pub back-long : (c : Content) (ds : List ℕ) → length ds ≡ 35 → length (backFor c ds) ≡ need (rowFor c .after)
+unfolding backFor
+back-long c ds n = length-take-le (digitsAfter c) ds (omega (arith, contents.few-digits c))
+
+pub whole-body : (c : Content) (body : List ℕ) → length body ≡ countFor c body * need (rowFor c .each) → bodyFor c body ≡ body
+unfolding bodyFor
+whole-body c body h = take-all (countFor c body * need (rowFor c .each)) body (omega (arith, h))
+
+pub code-unmet : all (unmet 0) code ≡ true
+unfolding all
+code-unmet = refl
+
+pub octet-size : size (octets 1 ∷ []) ≡ 8
+unfolding size
+octet-size = refl

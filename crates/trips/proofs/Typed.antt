@@ -1,0 +1,151 @@
+-- Fields and a body of their types, where they are taken, fit the bits of their table. Assumes nothing.
+use mathlib.Core.Path.{_≡_, refl, sym, ap, _∙_}
+use mathlib.Core.List.{List, [], _∷_, _++_, append-assoc}
+use mathlib.Core.Bool.{Bool, true, false, not, _&&_, _||_, cond}
+use Prim.Native.Nat.{ℕ, suc, _*_, _<_}
+use native.Mathlib.Omega.{arith}
+use lib.ListN.{length, take, drop, replicate, length-append}
+use lib.Seq.{take-all, drop-at}
+use lib.Dec.{leb, eqb}
+use borrow.Author.Tests.{eqb-true, le-leb}
+use Rattle.laws.specs.Bits.{at}
+use Rattle.laws.specs.Scan.{all}
+use Rattle.laws.proofs.Bits.{Under, under-take, under-drop}
+use Rattle.laws.proofs.Cases.{and-both, if-yes, if-no, and-yes}
+use Rattle.format.specs.declared.Line.{Line}
+use Rattle.format.specs.Format.{times, own, need, fill, inside, lineOk, fine, unmet}
+use Rattle.format.proofs.Tables.{unmet-fine, all-times}
+use Rattle.packet.specs.declared.Content.{Content}
+use Rattle.packet.specs.declared.Content.the-variants as content
+use Rattle.packet.specs.declared.Fields.{Fields}
+use Rattle.packet.specs.Table.{contentLines, code, ending, packet}
+use Rattle.packet.specs.Content.{countFor}
+use Rattle.packet.specs.Writing.{rowFor, frontFor, backFor, bodyFor, sizeFor, tableFor, numbersFor, valuesFor}
+use Rattle.trips.proofs.Parts as parts
+use Rattle.trips.proofs.Taken.{Taken, Fitted, lent-long, front-long, back-long, whole-body, code-unmet}
+
+-- ---- what the types give
+-- the numbers of a content's untested lines, by their types: u16 and u8
+abbrev pub held : Content → Bool
+held content.Raw = true
+held (content.Frequencies k) = true
+held (content.Address m) = true
+held (content.Keep on period) = leb period 65535
+held (content.Clock year month day hour minute second) = leb year 65535
+held (content.Reset change) = true
+held content.Factory = true
+held (content.Drill action) = true
+held (content.Text kind set t) = true
+held (content.Command k) = true
+held (content.Hold serial) = leb serial 255
+
+pub record Typed (f : Fields) (body : List ℕ) : Type 0 where
+  pub digits-long : length (f .digits) ≡ 35
+  pub certificate-long : length (f .certificate) ≡ 12
+  pub signature-long : length (f .signature) ≡ 64
+  pub content-held : held (f .content) ≡ true
+  pub time-held : f .time < 4294967296
+  pub signature-held : Under 256 (f .signature)
+  pub body-held : Under 256 body
+
+-- untested lines of bytes
+abbrev byteLine : Line → Bool
+byteLine t = not (eqb (t .other) 0) || (eqb (t .lo) 0 && (eqb (t .hi) 255 && t .free))
+
+bytes-inside : (v : List ℕ) → Under 256 v → inside 0 255 v ≡ true
+unfolding inside
+bytes-inside [] u = refl
+bytes-inside (x ∷ v) u = rw (le-leb 0 x (omega arith), le-leb x 255 (omega (arith, u 0)), bytes-inside v (λ i. u (suc i)))
+
+fine-bytes : (ts : List Line) (xs : List ℕ) → all byteLine ts ≡ true → Under 256 xs → fine 0 ts (fill ts xs) ≡ true
+unfolding all fine fill
+fine-bytes [] xs h u = refl
+fine-bytes (t ∷ ts) xs h u =
+    let a = and-both (byteLine t) (all byteLine ts) h in
+    and-yes _ (line (eqb (t .other) 0) refl (a .0)) ∙ fine-bytes ts (drop (own t) xs) (a .1) (under-drop 256 (own t) xs u)
+  where
+    line : (z : Bool) → eqb (t .other) 0 ≡ z → byteLine t ≡ true → lineOk 0 t (cond (t .free) (take (t .n) xs) (replicate (t .n) (t .lo))) ≡ true
+    line false e g = if-no (inside (t .lo) (t .hi) (cond (t .free) (take (t .n) xs) (replicate (t .n) (t .lo)))) true e
+    line true e g =
+        let g1 : (eqb (t .lo) 0 && (eqb (t .hi) 255 && t .free)) ≡ true = rw e at g in
+        let g2 = and-both (eqb (t .lo) 0) (eqb (t .hi) 255 && t .free) g1 in
+        let g3 = and-both (eqb (t .hi) 255) (t .free) (g2 .1) in
+        if-yes (inside (t .lo) (t .hi) (cond (t .free) (take (t .n) xs) (replicate (t .n) (t .lo)))) true e
+        ∙ rw (eqb-true (t .lo) 0 (g2 .0), eqb-true (t .hi) 255 (g3 .0), g3 .1) (bytes-inside (take (t .n) xs) (under-take 256 (t .n) xs u))
+
+front-held : (c : Content) (ds : List ℕ) → held c ≡ true → fine 0 (rowFor c .before) (fill (rowFor c .before) (frontFor c ds)) ≡ true
+unfolding fine fill frontFor inside need
+front-held content.Raw ds h = refl
+front-held (content.Frequencies k) ds h = refl
+front-held (content.Address m) ds h = refl
+front-held (content.Keep on period) ds h = rw (le-leb 0 period (omega arith), h)
+front-held (content.Clock year month day hour minute second) ds h = rw (le-leb 0 year (omega arith), h)
+front-held (content.Reset change) ds h = refl
+front-held content.Factory ds h = refl
+front-held (content.Drill action) ds h = refl
+front-held (content.Text kind set t) ds h = refl
+front-held (content.Command k) ds h = refl
+front-held (content.Hold serial) ds h = rw (le-leb 0 serial (omega arith), h)
+
+rows-byte : (c : Content) → all byteLine (rowFor c .each) ≡ true
+unfolding all
+rows-byte content.Raw = refl
+rows-byte (content.Frequencies k) = refl
+rows-byte (content.Address m) = refl
+rows-byte (content.Keep on period) = refl
+rows-byte (content.Clock year month day hour minute second) = refl
+rows-byte (content.Reset change) = refl
+rows-byte content.Factory = refl
+rows-byte (content.Drill action) = refl
+rows-byte (content.Text kind set t) = refl
+rows-byte (content.Command k) = refl
+rows-byte (content.Hold serial) = refl
+
+after-unmet : (c : Content) → all (unmet 0) (rowFor c .after) ≡ true
+unfolding all
+after-unmet content.Raw = refl
+after-unmet (content.Frequencies k) = refl
+after-unmet (content.Address m) = refl
+after-unmet (content.Keep on period) = refl
+after-unmet (content.Clock year month day hour minute second) = refl
+after-unmet (content.Reset change) = refl
+after-unmet content.Factory = refl
+after-unmet (content.Drill action) = refl
+after-unmet (content.Text kind set t) = refl
+after-unmet (content.Command k) = refl
+after-unmet (content.Hold serial) = refl
+
+ending-held : (x : ℕ) (y s : List ℕ) → x < 4294967296 → length y ≡ 12 → length s ≡ 64 → Under 256 s → fine 0 ending (fill ending (x ∷ (y ++ s))) ≡ true
+unfolding fine fill inside
+ending-held x y s hx hy hs u =
+    let e : take 64 (drop 12 (y ++ s)) ≡ s = ap (take 64) (drop-at y s 12 hy) ∙ take-all 64 s (omega arith) in
+    rw (le-leb 0 x (omega arith), le-leb x 4294967295 (omega arith), e, bytes-inside s u)
+
+bits-held : (f : Fields) (codes body : List ℕ) → Taken f codes body → Typed f body → fine 0 (tableFor f body) (valuesFor f codes body) ≡ true
+unfolding tableFor numbersFor
+bits-held f codes body a y =
+    let c = f .content in
+    let k = countFor c body in
+    let r = rowFor c in
+    let b = bodyFor c body in
+    let z = f .time ∷ (f .certificate ++ f .signature) in
+    let F = frontFor c (f .digits) in
+    let K = backFor c (f .digits) in
+    let bl : length b ≡ k * need (r .each) = ap length (whole a) ∙ lent-long c body (a .lent) (a .body-kept) in
+    let fl = front-long c (f .digits) (y .digits-long) in
+    let yl : length (F ++ (b ++ K)) ≡ need (contentLines r k) = length-append F (b ++ K) ∙ omega (arith, length-append b K, fl, bl, back-long c (f .digits) (y .digits-long), parts.content-need r k) in
+    let re : F ++ (b ++ (K ++ z)) ≡ (F ++ (b ++ K)) ++ z = sym (append-assoc F (b ++ K) z ∙ ap (λ (l : List ℕ). F ++ l) (append-assoc b K z)) in
+    let v = ap (λ (l : List ℕ). fill (packet r (f .kind) (sizeFor f body) (f .codes) k) (codes ++ l)) re ∙ parts.packet-fill r (f .kind) (sizeFor f body) (f .codes) k codes (F ++ (b ++ K)) z (a .codes-long) yl in
+    let ub : Under 256 b = rw (whole a) (y .body-held) in
+    let rows = fine-bytes (times k (r .each)) b (all-times byteLine k (r .each) (rows-byte c)) ub in
+    let cont = parts.content-fine 0 r k F b K fl bl (front-held c (f .digits) (y .content-held)) (parts.all-count (unmet 0) (r .sort) k refl) rows (unmet-fine 0 (r .after) (fill (r .after) K) (after-unmet c)) in
+    ap (fine 0 (packet r (f .kind) (sizeFor f body) (f .codes) k)) v
+    ∙ parts.packet-fine 0 r (f .kind) (sizeFor f body) (f .codes) k codes (F ++ (b ++ K)) z refl (unmet-fine 0 (times (f .codes) code) (fill (times (f .codes) code) codes) (all-times (unmet 0) (f .codes) code code-unmet)) cont (ending-held (f .time) (f .certificate) (f .signature) (y .time-held) (y .certificate-long) (y .signature-long) (y .signature-held))
+  where
+    whole : Taken f codes body → bodyFor (f .content) body ≡ body
+    whole a = whole-body (f .content) body (lent-long (f .content) body (a .lent) (a .body-kept))
+
+-- fields and a body of their types that are taken fit the table
+pub fitted : (f : Fields) (codes body : List ℕ) → Typed f body → Taken f codes body → Fitted f codes body
+fitted f codes body t a =
+    record { digits-long = t .digits-long; certificate-long = t .certificate-long; signature-long = t .signature-long; bits-hold = bits-held f codes body a t }
