@@ -98,6 +98,13 @@ def contracts_hold():
         fault(page, "a row for `%s`, which is no public function" % gone)
 
 
+def map_is_full():
+    """No cell of a lettered row is empty: an empty one is a rule that nothing shows."""
+    for row in re.findall(r"^\| [A-Z]\d+ \|.*$", text("docs/MAP.md"), re.M):
+        if not all(cell.strip() for cell in row.strip("|").split("|")):
+            fault("docs/MAP.md", "an empty cell in row %s" % row.split("|")[1].strip())
+
+
 def edits_are_told():
     told = {(crate, name) for page in ("docs/MAP.md", "docs/CONTRACTS.md") for crate, kind, some in NAMED.findall(text(page)) if kind == "!" for name in names(some)}
     for path in files("crates/*/must-fail/*.edit"):
@@ -119,6 +126,7 @@ def main():
     for page in pages:
         page_holds(page)
     contracts_hold()
+    map_is_full()
     edits_are_told()
     crates_are_told()
     if faults:
