@@ -10,7 +10,7 @@ import sys
 
 from model.packet import NAMES
 
-from . import draw, records, smaller
+from . import draw, listed, records, smaller
 
 # The answers that paper 01 lists for each function. None of them may be missing from what was drawn.
 ANSWERS = {"read": (0, 20, 23, 24, 25, 26, 27), "text": (0, 20, 23, 24, 25, 26, 27), "write": (0, 10, 20, 23, 25, 26, 27),
@@ -78,8 +78,8 @@ def compare(some):
     for batch in batches(some):
         for record in differing_of(batch)[:1]:
             least = smaller.record(record, differing)
-            sys.exit("packets differs from the model; the smallest record found, in hex:\n%s\npackets:\n%smodel:\n%s"
-                     % (least.hex(" "), run(least), records.printed(least)))
+            sys.exit("packets differs from the model; the smallest record found: %s\nin hex: %s\npackets:\n%smodel:\n%s"
+                     % (records.said(least), least.hex(" "), run(least), records.printed(least)))
         for record in batch:
             count(seen, record)
         total += len(batch)
@@ -87,7 +87,7 @@ def compare(some):
 
 
 def main(n):
-    some = [*draw.listed(), *(draw.drawn(kind, seed) for kind in "PWA" for seed in range(n))]
+    some = [*listed.everything(), *(draw.drawn(kind, seed) for kind in "PWA" for seed in range(n))]
     seen, total = compare(some)
     if missing(seen):
         sys.exit("the records never drew: %s" % missing(seen))

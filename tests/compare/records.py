@@ -90,6 +90,15 @@ def lines(record):
     return ["air %d %d %s" % (answer, frames, hexed(air)), "the rest as it was"]
 
 
+def said(record):
+    """What a record asks, for a person."""
+    if record[:1] == b"P":
+        return "read a packet of %d bytes" % (len(record) - 3)
+    if record[:1] == b"W":
+        return "write %s, codes %s, body %s, into %d bytes" % fields_of(record)
+    return "on air: level %d, version %d, into %d bytes, a packet of %d bytes" % (record[1], record[2], number(record, 3), len(record) - 7)
+
+
 def printed(data):
     """All that the program prints of its input."""
     some, left = split(data)
