@@ -3,7 +3,7 @@ from model.packet import NAMES
 from model.writer import COUNTED
 
 from .draw import mended
-from .records import CONTENTS, number, reading, two
+from .records import CONTENTS, HEADS, number, reading, split, two
 
 
 def air(data, differs):
@@ -74,20 +74,44 @@ def key(record):
 
 def tries(record, size):
     """Records with a part of so many bytes, or of so many counted things, left out or zero; lengths are never set to zero."""
-    if record[:1] == b"W":
+    letter = record[:1]
+    if letter == b"W":
         return [*fields(record, size), *zeroed(record, 1, 127, size), *zeroed(record, 133, len(record), size)]
-    if record[:1] == b"A":
-        return [*packets(record, 7, size), *zeroed(record, 1, 5, size), *zeroed(record, 7, len(record), size)]
-    return [*packets(record, 3, size), *map(reading, counted(record[3:], size)), *zeroed(record, 3, len(record), size)]
+    if letter in (b"A", b"R"):
+        head = HEADS[letter]
+        return [*packets(record, head, size), *zeroed(record, 1, head - 2, size), *zeroed(record, head, len(record), size)]
+    if letter == b"P":
+        return [*packets(record, 3, size), *map(reading, counted(record[3:], size)), *zeroed(record, 3, len(record), size)]
+    return zeroed(record, {b"O": 3}.get(letter, 1), len(record), size)
 
 
-def record(least, differing):
-    """The smallest record found; differing says which of some records differ."""
-    size = len(least)
+def fewer(some, differing):
+    """Records left out, many at a time first; the first stays."""
+    size = len(some)
     while size:
-        better = sorted(differing([t for t in tries(least, size) if key(t) < key(least)]), key=key)
-        if better:
-            least = better[0]
-        else:
-            size //= 2
-    return least
+        at = 1
+        while at < len(some):
+            less = some[:at] + some[at + size :]
+            if differing([b"".join(less)]):
+                some = less
+            else:
+                at += size
+        size //= 2
+    return some
+
+
+def records(data, differing):
+    """The smallest input found; differing says which of some inputs differ."""
+    some = fewer(split(data)[0], differing)
+    for k in range(len(some) - 1, -1, -1):
+        size = len(some[k])
+        while size:
+            smaller = [t for t in tries(some[k], size) if key(t) < key(some[k])]
+            before, behind = b"".join(some[:k]), b"".join(some[k + 1 :])
+            better = set(differing([before + t + behind for t in smaller]))
+            better = sorted((t for t in smaller if before + t + behind in better), key=key)
+            if better:
+                some[k] = better[0]
+            else:
+                size //= 2
+    return b"".join(some)
