@@ -9,6 +9,15 @@ pub(crate) fn least(n: usize, m: usize) -> usize
     if n < m { n } else { m }
 }
 
+// The length of a record of two parts; 0 where there is less.
+pub(crate) fn whole(b: &[u8], head: usize, rest: usize) -> usize
+    requires { ⌜ (head ≤ 1000) × (rest ≤ 150000) ⌝ }
+    ensures { λ r. ⌜ r ≤ 200000 ⌝ }
+{
+    let n = head + rest;
+    if n <= b.len() { n } else { 0 }
+}
+
 pub(crate) fn byte(b: &[u8], i: usize) -> u8 {
     if i < b.len() { b[i] } else { 0 }
 }

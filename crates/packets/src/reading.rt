@@ -140,20 +140,13 @@ fn back(o: Opened, packet: &[u8]) {
     }
 }
 
-// The record's length, or 0 where it is cut short.
-pub(crate) fn record(b: &[u8]) -> usize
-    ensures { λ r. ⌜ r ≤ 200000 ⌝ }
-{
-    let size = input::two(b, 1) as usize;
-    if b.len() < 3 + size {
-        return 0;
-    }
-    let packet = input::part(b, 3, size);
+// A whole record.
+pub(crate) fn record(b: &[u8]) {
+    let packet = input::part(b, 3, 65536);
     let o = reader::read(packet);
     shown(o);
     text_and_body(packet);
     if o.answer == 0 {
         back(o, packet);
     }
-    3 + size
 }
