@@ -20,7 +20,8 @@ use Rattle.collector.specs.declared.Copied.{Copied}
 use Rattle.collector.specs.Whole.{packetSize, passes}
 use Rattle.collector.specs.Places.{blank, isPair, complete, joined, whole, copyCases, copyAnswer, copyBytes}
 use Rattle.collector.specs.Collector.{indexOfPair, placeOf, answered, copied}
-use Rattle.collector.proofs.Laws.{good-at, total-small, is-not-held, copy-none, copy-held}
+use Rattle.collector.proofs.Calls.{copy-none, copy-held}
+use Rattle.collector.proofs.AllPlaces.{good-at, total-small, is-not-held}
 use Rattle.order.specs.Held.{fourAt, lookup, holdsIn, totalIn, holds, totalHeld}
 use Rattle.order.specs.Given.{full, joinedBy}
 use Rattle.order.proofs.Lookup.{lookup-found, lookup-missing}

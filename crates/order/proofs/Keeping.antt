@@ -21,7 +21,8 @@ use Rattle.collector.specs.declared.Piece.{Piece}
 use Rattle.collector.specs.declared.Offered.{Offered}
 use Rattle.collector.specs.Places.{blank, isPair, apart, isClear, marksBelow, fair, stored, taken, freed}
 use Rattle.collector.specs.Collector.{good, nothing, indexOfPair, itsPlace, pieceOf, put, takenIn, kept, offered, released}
-use Rattle.collector.proofs.Laws.{good-at, is-held, is-not-held, offer-heading, offer-taken, release-18, release-0}
+use Rattle.collector.proofs.Calls.{offer-heading, offer-taken, release-18, release-0}
+use Rattle.collector.proofs.AllPlaces.{good-at, is-held, is-not-held}
 use Rattle.order.proofs.Outcome.{Outcome, turned, joins, starts, finds-none, outcome, atPair, atFree, total-agrees}
 
 -- a place has the lengths that its arrays have

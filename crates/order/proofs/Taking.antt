@@ -21,7 +21,7 @@ use Rattle.collector.specs.declared.Piece.{Piece}
 use Rattle.collector.specs.declared.Offered.{Offered}
 use Rattle.collector.specs.Places.{blank, isPair, marked, sameFour, against, stored, taken, state}
 use Rattle.collector.specs.Collector.{isFree, indexOfPair, itsPlace, put, takenIn, kept}
-use Rattle.collector.proofs.Laws.{new-number, same-frame}
+use Rattle.collector.proofs.OnePlace.{new-number, same-frame}
 use Rattle.order.specs.Held.{Four, bytesAt, fourAt, lookup, holdsIn, totalIn, holds, totalHeld}
 use Rattle.order.specs.Given.{four, Pair, among, isSome, declareCases}
 use Rattle.order.proofs.Outcome.{Outcome, turned, joins, starts, finds-none, outcome, atPair, atFree, total-agrees}

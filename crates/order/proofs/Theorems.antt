@@ -26,7 +26,8 @@ use Rattle.collector.specs.declared.Piece.{Piece}
 use Rattle.collector.specs.declared.Offered.{Offered}
 use Rattle.collector.specs.Places.{blank, isPair, stored, taken, freed, copyAnswer, copyBytes}
 use Rattle.collector.specs.Collector.{nothing, good, isFree, isHeld, indexOfPair, placeOf, itsPlace, put, pieceOf, takenIn, keeps, offerCases, offered, releaseCases, released, copiedCases, answered, copied}
-use Rattle.collector.proofs.Laws.{offer-apart, release-apart, copy-apart, is-held, is-not-held, some-free, release-0}
+use Rattle.collector.proofs.Calls.{offer-apart, release-apart, copy-apart, release-0}
+use Rattle.collector.proofs.AllPlaces.{is-held, is-not-held, some-free}
 use Rattle.order.specs.Held.{Four, holds, totalHeld, offerAll, Act, offering, releasing, run}
 use Rattle.order.specs.Given.{pieces, four, ofPair, ofKey, Pair, Bounded, Rearranged, firstOf, given, totalGiven, declareCases, dueCases, due}
 use Rattle.order.proofs.Keeping.{Good, kept-collector, empty-good, offer-good, release-good}

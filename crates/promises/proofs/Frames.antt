@@ -27,7 +27,7 @@ use Rattle.collector.specs.declared.Piece.{Piece}
 use Rattle.collector.specs.Whole.{packetSize, passes}
 use Rattle.collector.specs.Places.{isPair, complete, joined, whole, copyCases, copyAnswer, copyBytes}
 use Rattle.collector.specs.Collector.{nothing, indexOfPair, placeOf, pieceOf, offered, answered, copied}
-use Rattle.collector.proofs.Laws.{copy-held}
+use Rattle.collector.proofs.Calls.{copy-held}
 use Rattle.order.specs.Held.{Four, fourAt, lookup, holdsIn, totalIn, holds, totalHeld, offerAll}
 use Rattle.order.specs.Given.{pieces, four, Bounded, given, totalGiven, isSome, full, joinedTo, bytesOf, declareCases, dueCases, due}
 use Rattle.order.proofs.Keeping.{Good, empty-good}
