@@ -12,6 +12,11 @@ use Rattle.frame.specs.OnAir.{airBytes, streamOf}
 use Rattle.air.specs.OnAir.{framesFor, frameOf, headingFor, framesFrom, framesOf}
 use Rattle.frame.proofs.OnAir.{length-air}
 
+-- The frames of a packet of p bytes have room for it and its two check bytes, and no fewer frames have.
+pub frames-least : (p : ℕ) → (p + 2 ≤ 4 * framesFor p) × ((n : ℕ) → p + 2 ≤ 4 * n → framesFor p ≤ n)
+unfolding framesFor
+frames-least p = (omega arith, λ n h. omega arith)
+
 -- at most 63 frames
 pub few : (p : ℕ) → p ≤ 250 → framesFor p ≤ 63
 unfolding framesFor

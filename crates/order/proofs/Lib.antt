@@ -11,3 +11,4 @@ pub mod Copying
 pub mod Theorems
 pub mod Declared
 pub mod Repeats
+pub mod Staying

@@ -7,7 +7,10 @@ use lib.Seq.{length-take-le}
 use Rattle.format.specs.declared.Line.{Line}
 use Rattle.format.specs.Format.{octets}
 use Rattle.packet.specs.declared.Lines.{Lines}
-use Rattle.packet.specs.Shape.{Listed}
+use Rattle.packet.specs.declared.Shape.{Shape}
+use Rattle.packet.specs.declared.Sort.{Sort}
+use Rattle.packet.specs.Table.{Row}
+use Rattle.packet.specs.Shape.{Listed, Shaped}
 
 -- Whatever a contract says the answer equals, any two answers that it allows are equal.
 pub one-answer : {Answer : Type 0} (said : Answer) (a b : Answer) → a ≡ said → b ≡ said → a ≡ b
@@ -30,3 +33,18 @@ one-listing r s ts a b h k =
     let x = listed r ts a h in
     let y = listed s ts b k in
     ap₂ (λ (m : ℕ) (all : List Line). record { m = m; all = all }) (one-answer (length ts) (r .m) (s .m) (x .0) (y .0)) (one-answer (ts ++ replicate (6 - length ts) (octets 0)) (r .all) (s .all) (x .1) (y .1))
+
+-- the three lists of a row, each an array of six
+pub record Sized (r : Shape) : Type 0 where
+  pub first : length (r .before .all) ≡ 6
+  pub rows : length (r .each .all) ≡ 6
+  pub last : length (r .after .all) ≡ 6
+
+-- Any two answers that give a row of the table are equal.
+pub one-row : (r s : Shape) (t : Row) → Sized r → Sized s → Shaped r t → Shaped s t → r ≡ s
+one-row r s t a b h k =
+    let first = one-listing (r .before) (s .before) (t .before) (a .first) (b .first) (h .first) (k .first) in
+    let rows = one-listing (r .each) (s .each) (t .each) (a .rows) (b .rows) (h .rows) (k .rows) in
+    let last = one-listing (r .after) (s .after) (t .after) (a .last) (b .last) (h .last) (k .last) in
+    ap₂ (λ (x : Sort) (y : Lines). record { sort = x; before = y; each = r .each; after = r .after }) (one-answer (t .sort) (r .sort) (s .sort) (h .same) (k .same)) first
+    ∙ ap₂ (λ (y z : Lines). record { sort = s .sort; before = s .before; each = y; after = z }) rows last

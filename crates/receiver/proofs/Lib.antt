@@ -12,3 +12,5 @@ pub mod CleanAir
 pub mod Answers
 pub mod BitByBit
 pub mod FirstBlock
+pub mod Stood
+pub mod Sums

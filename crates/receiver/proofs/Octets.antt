@@ -32,6 +32,19 @@ five d i a b x y z ha hb hx hy hz =
     let e4 = byte-on d i 4 (omega arith) in
     omega arith
 
+-- four bytes, from a bit that begins one
+pub four : (d : List ℕ) (from : ℕ) → from % 32 ≡ 0 → ((i : ℕ) → getD d i 0 < 256)
+    → (getD d (from / 8) 0 * 256 + getD d (from / 8 + 1) 0) * 65536 + (getD d (from / 8 + 2) 0 * 256 + getD d (from / 8 + 3) 0) ≡ at (bits d) from 32
+four d from h u =
+    let i : ℕ = from / 8 in
+    let e0 = byte d i (u i) in
+    let e1 = byte-on d i 1 (u (i + 1)) in
+    let e2 = byte-on d i 2 (u (i + 2)) in
+    let e3 = byte-on d i 3 (u (i + 3)) in
+    let f : i * 8 ≡ from = omega arith in
+    let g : (getD d i 0 * 256 + getD d (i + 1) 0) * 65536 + (getD d (i + 2) 0 * 256 + getD d (i + 3) 0) ≡ at (bits d) (i * 8) 32 = omega arith in
+    g ∙ ap (λ (p : ℕ). at (bits d) p 32) f
+
 pub shifted-one : (n w : ℕ) → n < w → 1 * 2 ^ n % 2 ^ w ≡ 2 ^ n
 shifted-one n w h = shl-exact {a = 1} 1 n w (omega arith) (omega arith) ∙ one-mul (2 ^ n)
 

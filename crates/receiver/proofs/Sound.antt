@@ -18,13 +18,13 @@ use Rattle.receiver.specs.Rule.{Heard, next, complete, kept, ended, onto
 use Rattle.receiver.specs.Receive.{before, passed, begunOf, heldOf, hearing, joined}
 use Rattle.receiver.proofs.Rule.{run}
 
-under-take : (n : ℕ) (l : List ℕ) → Under 2 l → Under 2 (take n l)
+pub under-take : (n : ℕ) (l : List ℕ) → Under 2 l → Under 2 (take n l)
 under-take zero l u i = omega arith
 under-take (suc n) [] u i = omega arith
 under-take (suc n) (x ∷ l) u zero = u 0
 under-take (suc n) (x ∷ l) u (suc i) = under-take n l (λ j. u (suc j)) i
 
-under-drop : (n : ℕ) (l : List ℕ) → Under 2 l → Under 2 (drop n l)
+pub under-drop : (n : ℕ) (l : List ℕ) → Under 2 l → Under 2 (drop n l)
 under-drop n l u i = let e = getD-drop n l i 0 in omega (arith, u (n + i))
 
 -- every frame has eight bytes
@@ -51,13 +51,13 @@ pub record Sound (p : Phase) (l : List ℕ) (h : Heard) : Type 0 where
   pub held : Under 2 (h .held)
   pub room : length (h .frames) * 104 + passed (h .phase) * 26 + length (h .held) ≤ passed p * 26 + length l
 
-kept-size : (x : Letter) (g : List ℕ) → length g ≡ before x * 16 + 16 → length (kept x g) ≡ before (next x) * 16
+pub kept-size : (x : Letter) (g : List ℕ) → length g ≡ before x * 16 + 16 → length (kept x g) ≡ before (next x) * 16
 kept-size A g e = e
 kept-size B g e = e
 kept-size C g e = e
 kept-size D g e = refl
 
-kept-bits : (x : Letter) (g : List ℕ) → Under 2 g → Under 2 (kept x g)
+pub kept-bits : (x : Letter) (g : List ℕ) → Under 2 g → Under 2 (kept x g)
 kept-bits A g u = u
 kept-bits B g u = u
 kept-bits C g u = u

@@ -19,7 +19,7 @@ use Rattle.receiver.specs.declared.Receiver.{Receiver}
 use Rattle.receiver.specs.declared.readers.Going.{Going}
 use Rattle.receiver.specs.Rule.{Heard, next, complete, onto}
 use Rattle.receiver.specs.Receive.{before, joined}
-use Rattle.receiver.specs.Readers.{hunted, followedOn, goingOf, Ready}
+use Rattle.receiver.specs.Readers.{hunted, followedOn, goingOf, Ready, Passes}
 use Rattle.receiver.proofs.Window.{hunt-more, hunt-found, hunt-on, hunt-end, lock-more, lock-pass, lock-fail, lock-end, end-record, words-small}
 use Rattle.receiver.proofs.Onward.{Onward, Given, start, on, handed, over, eight-each, frames-on}
 
@@ -57,6 +57,17 @@ module _ {d room₀ : List ℕ} {h₀ : Heard} {from₀ n₀ : ℕ} {room : List
       let e = hunt-end d held count from k (a .ready .pending) in
       let z : n ≡ n + 0 = omega arith in
       handed (on (a .onward) e) _ _ (ap₂ (λ (r : Receiver) (m : ℕ). record { receiver = r; frames = m }) (end-record Hunting 0 0 count held (omega arith) (a .ready .fits)) z, refl)
+
+  -- 32 bits pass by
+  pub hunt-pass : Passes d held count from → (x : ℕ) → x ≡ at (bits d) from 32 → Along d room₀ h₀ from₀ n₀ room (hunted d (x % 0x2000000) count (from + 32)) (x % 0x2000000) count (from + 32) n
+  hunt-pass p x e =
+      let f = p .full in
+      let q : 2 ^ 25 ≡ 2 ^ count = ap (λ (m : ℕ). 2 ^ m) (sym f) in
+      record {
+        ready = record { fits = omega (arith, q); pending = omega arith; inside = p .room; short = a .ready .short; wide = a .ready .wide; few = omega (arith, a .ready .few) };
+        onward = on (a .onward) (p .on ∙ ap₂ (λ (y m : ℕ). hunted d (y % 0x2000000) m (from + 32)) (sym e) (sym f));
+        later = omega (arith, a .later);
+      }
 
   module _ (b : ℕ) (k : from < length d * 8) (e : (b ≡ getD (bits d) from 0) × (b < 2)) where
     pub small : held * 2 + b < 2 ^ (count + 1)

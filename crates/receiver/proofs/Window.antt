@@ -1,17 +1,17 @@
 -- The rule on a number that holds the bits taken so far, and the place of the next bit: what each turn of the two readers does. Assumes nothing.
 use mathlib.Core.Path.{_≡_, refl, sym, ap, ap₂, _∙_}
-use mathlib.Core.Bool.{true, false}
+use mathlib.Core.Bool.{Bool, true, false}
 use mathlib.Core.List.{List, [], _++_, append-assoc, append-nil}
-use Prim.Native.Nat.{ℕ, _+_, _*_, _/_, _%_, _^_, _<_, _≤_}
-use native.Mathlib.Nat.{mod-lt, zero-add}
+use Prim.Native.Nat.{ℕ, zero, suc, _+_, _*_, _/_, _%_, _-_, _^_, _<_, _≤_}
+use native.Mathlib.Nat.{mod-lt, zero-add, zero-div}
 use native.Mathlib.Omega.{arith}
 use lib.ListN.{length, getD, take, drop, length-append, take-append-drop, drop-of-length-le}
 use lib.Seq.{drop-drop, take-at, drop-at}
-use lib.Pow.{pow-pos, split}
+use lib.Pow.{pow-pos, split, field, mod-mod-pow}
 use Rattle.laws.specs.Bits.{at, bitsOf, bits}
-use Rattle.laws.proofs.Bits.{length-bitsOf, length-spread, under-spread, at-below, at-bits, bits-at}
+use Rattle.laws.proofs.Bits.{length-bitsOf, length-spread, under-spread, at-left, at-below, at-bits, bits-at}
 use Rattle.laws.proofs.ByteFields.{at-front}
-use Rattle.laws.proofs.Words.{bits-join}
+use Rattle.laws.proofs.Words.{at-within, bits-join}
 use Rattle.block.specs.Block.{isValid}
 use Rattle.block.specs.declared.Letter.{Letter}
 use Rattle.block.specs.declared.Letter.the-variants.{A, B, C, D}
@@ -20,7 +20,7 @@ use Rattle.receiver.specs.declared.Phase.the-variants.{Hunting, Locked}
 use Rattle.receiver.specs.declared.Receiver.{Receiver}
 use Rattle.receiver.specs.Rule.{next, complete, kept, ended, onto, heard}
 use Rattle.receiver.specs.Receive.{before, endOf}
-use Rattle.receiver.specs.Readers.{left, hunted, followedOn, goingOf}
+use Rattle.receiver.specs.Readers.{left, hunted, followedOn, goingOf, Marks}
 use Rattle.receiver.proofs.Rule.{heard-short, heard-found, heard-on, heard-pass, heard-fail}
 
 -- ---- the bits left
@@ -95,6 +95,49 @@ module _ (d : List ℕ) (x from : ℕ) (h : x < 2 ^ 26) where
   hunt-on v =
       heard-on [] (left d x 26 from) (whole d x from h) (ap (λ (y : ℕ). isValid y A) (block d x from h) ∙ v)
       ∙ ap (heard Hunting []) (one-on d x from h)
+
+-- 25 bits and n more in a number, with no block A among them: the last 25 stay held
+hunt-past : (d : List ℕ) (x from n : ℕ) → ((j : ℕ) → j < n → isValid (x / 2 ^ j % 2 ^ 26) A ≡ false) → hunted d x (25 + n) from ≡ hunted d (x % 2 ^ 25) 25 from
+unfolding hunted
+hunt-past d x from zero h = ap (λ (l : List ℕ). heard Hunting [] (l ++ drop from (bits d))) (sym (low-bits 25 x))
+hunt-past d x from (suc n) h =
+    let s = length-bitsOf (25 + suc n) x in
+    let e : 25 + suc n ≡ 1 + (25 + n) = omega arith in
+    let f : 25 + suc n - (0 + 26) ≡ n = omega arith in
+    let first : at (left d x (25 + suc n) from) 0 26 ≡ x / 2 ^ n % 2 ^ 26 =
+    at-left (bitsOf (25 + suc n) x) (drop from (bits d)) 0 26 (omega arith)
+    ∙ at-within (25 + suc n) x 0 26 (omega arith)
+    ∙ ap (λ (k : ℕ). x / 2 ^ k % 2 ^ 26) f in
+    let rest : drop 1 (left d x (25 + suc n) from) ≡ left d x (25 + n) from =
+    ap (λ (m : ℕ). drop 1 (left d x m from)) e
+    ∙ ap (λ (l : List ℕ). drop 1 (l ++ drop from (bits d))) (cut 1 (25 + n) x)
+    ∙ ap (drop 1) (append-assoc (bitsOf 1 (x / 2 ^ (25 + n))) (bitsOf (25 + n) (x % 2 ^ (25 + n))) (drop from (bits d)))
+    ∙ drop-at (bitsOf 1 (x / 2 ^ (25 + n))) _ 1 (length-bitsOf 1 (x / 2 ^ (25 + n)))
+    ∙ ap (λ (l : List ℕ). l ++ drop from (bits d)) (low-bits (25 + n) x) in
+    heard-on [] (left d x (25 + suc n) from) (omega (arith, length-append (bitsOf (25 + suc n) x) (drop from (bits d)))) (ap (λ (y : ℕ). isValid y A) first ∙ h n (omega arith))
+    ∙ ap (heard Hunting []) rest
+    ∙ hunt-past d x from n (λ j k. h j (omega arith))
+
+-- the low 32 bits of a number are 0
+low-zero : (m j : ℕ) → j < 32 → m % 2 ^ 32 ≡ 0 → m / 2 ^ j % 2 ≡ 0
+low-zero m j k z =
+    let e : 31 - j + 1 + j ≡ 32 = omega arith in
+    sym (mod-mod-pow (m / 2 ^ j) (31 - j) 1)
+    ∙ ap (λ (x : ℕ). x % 2) (sym (field m (31 - j + 1) j) ∙ ap (λ (n : ℕ). m % 2 ^ n / 2 ^ j) e ∙ ap (λ (x : ℕ). x / 2 ^ j) z ∙ zero-div (2 ^ j))
+
+unmarked : (t : Bool) (x : ℕ) → x ≡ 0 → (t ≡ true → x ≡ 1) → t ≡ false
+unmarked true x z o = let e = o refl in absurd (omega arith)
+unmarked false x z o = refl
+
+-- 32 bits of a delivery behind 25 held, where no block A is marked
+pub hunt-by : (d : List ℕ) (held from m : ℕ) → from + 32 ≤ length d * 8 → Marks (held * 2 ^ 32 + at (bits d) from 32) m → m % 2 ^ 32 ≡ 0
+    → hunted d held 25 from ≡ hunted d (at (bits d) from 32 % 2 ^ 25) 25 (from + 32)
+unfolding hunted
+hunt-by d held from m h marked z =
+    let l : (held * 2 ^ 32 + at (bits d) from 32) % 2 ^ 25 ≡ at (bits d) from 32 % 2 ^ 25 = omega arith in
+    ap (heard Hunting []) (more d held 25 from 32 h)
+    ∙ hunt-past d (held * 2 ^ 32 + at (bits d) from 32) (from + 32) 32 (λ j k. unmarked _ _ (low-zero m j k z) (marked j))
+    ∙ ap (λ (x : ℕ). hunted d x 25 (from + 32)) l
 
 pub hunt-end : (d : List ℕ) (held count from : ℕ) → length d * 8 ≤ from → count ≤ 25 → hunted d held count from ≡ ended Hunting [] (bitsOf count held)
 unfolding hunted

@@ -3,3 +3,4 @@ pub mod Receive
 pub mod Readers
 pub mod Calls
 pub mod Steps
+pub mod Standing

@@ -1,9 +1,11 @@
 -- What the two readers and the small functions under them cite: the rule on the bits left from a place of a delivery on.
 use mathlib.Core.Path.{_≡_}
+use mathlib.Core.Bool.{true}
 use mathlib.Core.List.{List, [], _∷_, _++_}
-use Prim.Native.Nat.{ℕ, _+_, _*_, _^_, _≤_, _<_}
+use Prim.Native.Nat.{ℕ, _+_, _*_, _/_, _%_, _^_, _≤_, _<_}
 use lib.ListN.{length, drop}
-use Rattle.laws.specs.Bits.{bitsOf, bits}
+use Rattle.laws.specs.Bits.{at, bitsOf, bits}
+use Rattle.block.specs.Block.{isValid}
 use Rattle.block.specs.declared.Letter.{Letter}
 use Rattle.block.specs.declared.Letter.the-variants.{A, B, C, D}
 use Rattle.receiver.specs.declared.Phase.the-variants.{Hunting, Locked}
@@ -41,3 +43,14 @@ pub record Ready (d room : List ℕ) (held count from frames : ℕ) : Type 0 whe
   pub short : length d ≤ 512
   pub wide : length room ≡ 320
   pub few : frames ≤ from
+
+-- m has a one at each place of u where a block A begins, counted from the lowest bit
+abbrev pub Marks : ℕ → ℕ → Type 0
+Marks u m = (j : ℕ) → isValid (u / 2 ^ j % 2 ^ 26) A ≡ true → m / 2 ^ j % 2 ≡ 1
+
+-- the next 32 bits pass by: hunting goes on behind them with the last 25 held
+pub record Passes (d : List ℕ) (held count from : ℕ) : Type 0 where
+  pub full : count ≡ 25
+  pub even : from % 32 ≡ 0
+  pub room : from + 32 ≤ length d * 8
+  pub on : hunted d held count from ≡ hunted d (at (bits d) from 32 % 2 ^ 25) 25 (from + 32)

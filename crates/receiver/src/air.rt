@@ -1,6 +1,6 @@
 // The bits of a delivery, the highest of each byte first.
 ghost use mathlib.Core.Path.{_≡_};
-ghost use Prim.Native.Nat.{ℕ, _+_, _*_, _^_, _≤_, _<_};
+ghost use Prim.Native.Nat.{ℕ, _+_, _*_, _%_, _^_, _≤_, _<_};
 ghost use lib.ListN.{length, getD};
 ghost use Rattle.laws.specs.Bits.{at, bits};
 
@@ -23,6 +23,17 @@ fn wide_at(delivery: &[u8], i: usize) -> u64
     let a = byte_at(delivery, i) * 256 + byte_at(delivery, i + 1);
     let b = byte_at(delivery, i + 2) * 256 + byte_at(delivery, i + 3);
     (a * 65536 + b) * 256 + byte_at(delivery, i + 4)
+}
+
+// Four bytes as one number, from a bit that begins one of them.
+pub(crate) fn word_at(delivery: &[u8], from: usize) -> u64
+    requires { ⌜ (from % 32 ≡ 0) × (from + 32 ≤ length (now delivery) * 8) ⌝ }
+    ensures { λ r. ⌜ r ≡ at (bits (now (delivery .entry))) from 32 ⌝ }
+{
+    let i = from / 8;
+    let a = delivery[i] as u64 * 256 + delivery[i + 1] as u64;
+    let b = delivery[i + 2] as u64 * 256 + delivery[i + 3] as u64;
+    a * 65536 + b
 }
 
 // The next n bits: five bytes hold them wherever they begin.

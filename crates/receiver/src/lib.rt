@@ -1,6 +1,7 @@
 // The receiver: deliveries of air bytes in, frames out.
 mod air;
 mod output;
+mod passing;
 mod readers;
 
 use block::Letter;

@@ -11,7 +11,9 @@ ghost use Rattle.receiver.specs.Receive.{before, joined};
 ghost use Rattle.receiver.specs.Readers.{goingOf, readOf, hunted, followedOn, Ready};
 use crate::air::bit_at;
 use crate::air::followed;
+use crate::air::word_at;
 use crate::output::store;
+use crate::passing::passing;
 use block::Letter;
 
 // What a reader hands back: the receiver at the end of the bits, and the frames so far.
@@ -72,7 +74,7 @@ fn block_passed(room: &mut [u8], letter: Letter, words: u64, frames: usize) -> G
     }
 }
 
-// Looks at the latest 26 bits, bit by bit, until they are a block A.
+// Looks at the latest 26 bits, with each bit more, until they are a block A; 32 bits at a time pass by where none can be.
 pub(crate) fn hunting(
     delivery: &[u8],
     room: &mut [u8],
@@ -89,25 +91,30 @@ pub(crate) fn hunting(
     let mut count = count;
     let mut from = from;
     while from < delivery.len() * 8 {
-        let block = held * 2 + bit_at(delivery, from);
-        from += 1;
-        if count < 25 {
-            held = block;
-            count += 1;
+        if passing(delivery, held, count, from) {
+            held = (word_at(delivery, from) % 0x200_0000) as u32;
+            from += 32;
         } else {
-            if block::valid(block, Letter::A) {
-                return locked(
-                    delivery,
-                    room,
-                    Letter::B,
-                    (block / 1024) as u64,
-                    0,
-                    0,
-                    from,
-                    frames,
-                );
+            let block = held * 2 + bit_at(delivery, from);
+            from += 1;
+            if count < 25 {
+                held = block;
+                count += 1;
+            } else {
+                if block::valid(block, Letter::A) {
+                    return locked(
+                        delivery,
+                        room,
+                        Letter::B,
+                        (block / 1024) as u64,
+                        0,
+                        0,
+                        from,
+                        frames,
+                    );
+                }
+                held = block % 0x200_0000;
             }
-            held = block % 0x200_0000;
         }
     }
     let receiver = Receiver {

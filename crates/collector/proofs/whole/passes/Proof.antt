@@ -33,7 +33,7 @@ wide-requires : tie.Need-wide-requires
 wide-requires c κs = search needs
 
 mul-check : tie.Need-mul-check
-mul-check c = omega (arith, c .wide .ensures, c .before .shared-slice-known2 .given (c .before .before .before .before .packet-size .result))
+mul-check c = omega (arith, c .wide .ensures, c .before .shared-slice-known2 .given (c .before .before .before .before .packet-size .result), c .before .shared-slice-known2 .given (c .before .before .before .before .packet-size .result + 1))
 
 add-wide : tie.Need-add-wide
 add-wide c = search needs

@@ -8,7 +8,7 @@ use Rattle.receiver.specs.Receive.{before}
 use Rattle.receiver.specs.Readers.{hunted, followedOn}
 use Rattle.receiver.proofs.Onward.{handed}
 use Rattle.receiver.proofs.Window.{word-fits}
-use Rattle.receiver.proofs.Turns.{Along, begin, hunt-over, hunt-fill, hunt-slide, hunt-lock, small-26, lock-over, lock-drop, lock-on, block-lt, held-25, moved-up}
+use Rattle.receiver.proofs.Turns.{Along, begin, hunt-over, hunt-pass, hunt-fill, hunt-slide, hunt-lock, small-26, lock-over, lock-drop, lock-on, block-lt, held-25, moved-up}
 use borrow.Author.Needs.{needs}
 use Prim.Native.Nat.{ℕ, _*_, _-_, _^_, _<_}
 use borrow.Fn.Kinds.{In}
@@ -22,6 +22,8 @@ use Rattle.receiver.proofs.readers.+hunting+locked.Lts-locked as locked
 use Rattle.block.proofs.valid.Reads as valid-reads
 use Rattle.receiver.proofs.air.bit_at.Reads as bit-at-reads
 use Rattle.receiver.proofs.air.followed.Reads as followed-reads
+use Rattle.receiver.proofs.air.word_at.Reads as word-at-reads
+use Rattle.receiver.proofs.passing.passing.Reads as passing-reads
 use Rattle.receiver.proofs.readers.block_passed.Reads as block-passed-reads
 use Rattle.receiver.proofs.readers.+hunting+locked.{statement}
 use Rattle.receiver.proofs.readers.+hunting+locked.Tie.{close}
@@ -45,7 +47,7 @@ abbrev locked-below : ℕ → In 2 locked-kinds.ps
 locked-below t = and 2 locked-kinds.ps (falls 2 locked-kinds.ps _<_ μ-locked t) locked.Pre
 
 abbrev hunting-env : ℕ → hunting-lts.Claims
-hunting-env t = (bit-at-reads.Asked, bit-at-reads.Learnt, valid-reads.Asked, valid-reads.Learnt, locked-below t, locked.Post)
+hunting-env t = (passing-reads.Asked, passing-reads.Learnt, word-at-reads.Asked, word-at-reads.Learnt, bit-at-reads.Asked, bit-at-reads.Learnt, valid-reads.Asked, valid-reads.Learnt, locked-below t, locked.Post)
 
 abbrev locked-env : ℕ → locked-lts.Claims
 locked-env t = (followed-reads.Asked, followed-reads.Learnt, valid-reads.Asked, valid-reads.Learnt, hunting-below t, hunting.Post, block-passed-reads.Asked, block-passed-reads.Learnt)
@@ -63,54 +65,72 @@ hunting-loop-holds t c = begin _ (c .before .before .pre .1)
 hunting-mul-loop : (t : ℕ) → hunting-lts.Need-mul-loop (hunting-env t) (hunting-at t) hunting.Post hunting-Inv-loop hunting-μ-loop
 hunting-mul-loop t c = omega (arith, c .before .before .before .pre .1 .short)
 
-hunting-mul-block : (t : ℕ) → hunting-lts.Need-mul-block (hunting-env t) (hunting-at t) hunting.Post hunting-Inv-loop hunting-μ-loop
-hunting-mul-block t c = omega (arith, held-25 (c .before .loop .inv .ready))
+hunting-passing-requires : (t : ℕ) → hunting-lts.Need-passing-requires (hunting-env t) (hunting-at t) hunting.Post hunting-Inv-loop hunting-μ-loop
+hunting-passing-requires t c κs = (held-25 (c .before .loop .inv .ready), c .before .loop .inv .ready .short, c .before .loop .inv .ready .inside)
 
-hunting-bit-at-requires : (t : ℕ) → hunting-lts.Need-bit-at-requires (hunting-env t) (hunting-at t) hunting.Post hunting-Inv-loop hunting-μ-loop
-hunting-bit-at-requires t c κs = c .loop-test .taken
+hunting-word-at-requires : (t : ℕ) → hunting-lts.Need-word-at-requires (hunting-env t) (hunting-at t) hunting.Post hunting-Inv-loop hunting-μ-loop
+hunting-word-at-requires t c κs = ((c .before .passing .ensures (c .if1 .taken)) .even, (c .before .passing .ensures (c .if1 .taken)) .room)
 
-hunting-add-block : (t : ℕ) → hunting-lts.Need-add-block (hunting-env t) (hunting-at t) hunting.Post hunting-Inv-loop hunting-μ-loop
-hunting-add-block t c = omega (arith, held-25 (c .before .before .loop .inv .ready), c .bit-at .ensures .1)
+hunting-cast-held : (t : ℕ) → hunting-lts.Need-cast-held (hunting-env t) (hunting-at t) hunting.Post hunting-Inv-loop hunting-μ-loop
+hunting-cast-held t c = omega arith
 
 hunting-add-from : (t : ℕ) → hunting-lts.Need-add-from (hunting-env t) (hunting-at t) hunting.Post hunting-Inv-loop hunting-μ-loop
-hunting-add-from t c = omega (arith, c .before .loop-test .taken, c .before .before .before .before .before .pre .1 .short)
-
-hunting-add-count : (t : ℕ) → hunting-lts.Need-add-count (hunting-env t) (hunting-at t) hunting.Post hunting-Inv-loop hunting-μ-loop
-hunting-add-count t c = omega (arith, c .if1 .taken)
+hunting-add-from t c = omega (arith, (c .before .before .passing .ensures (c .before .if1 .taken)) .room, c .before .before .before .before .loop .inv .ready .short)
 
 hunting-loop-less : (t : ℕ) → hunting-lts.Need-loop-less (hunting-env t) (hunting-at t) hunting.Post hunting-Inv-loop hunting-μ-loop
-hunting-loop-less t c = omega (arith, c .before .before .loop-test .taken)
+hunting-loop-less t c = omega (arith, (c .before .before .passing .ensures (c .before .if1 .taken)) .room)
 
 hunting-loop-again : (t : ℕ) → hunting-lts.Need-loop-again (hunting-env t) (hunting-at t) hunting.Post hunting-Inv-loop hunting-μ-loop
-hunting-loop-again t c = hunt-fill (c .before .before .before .loop .inv) (c .before .bit-at .result) (c .before .before .loop-test .taken) (c .before .bit-at .ensures) (c .if1 .taken)
+hunting-loop-again t c = hunt-pass (c .before .before .before .before .loop .inv) (c .before .before .passing .ensures (c .before .if1 .taken)) (c .word-at .result) (c .word-at .ensures)
 
-hunting-valid-requires : (t : ℕ) → hunting-lts.Need-valid-requires (hunting-env t) (hunting-at t) hunting.Post hunting-Inv-loop hunting-μ-loop
-hunting-valid-requires t c κs = search needs
+hunting-mul-block : (t : ℕ) → hunting-lts.Need-mul-block (hunting-env t) (hunting-at t) hunting.Post hunting-Inv-loop hunting-μ-loop
+hunting-mul-block t c = omega (arith, held-25 (c .before .before .before .loop .inv .ready))
 
-hunting-cast-locked : (t : ℕ) → hunting-lts.Need-cast-locked (hunting-env t) (hunting-at t) hunting.Post hunting-Inv-loop hunting-μ-loop
-hunting-cast-locked t c = omega (arith, small-26 (c .before .before .before .before .before .before .loop .inv) (c .before .before .before .before .bit-at .result) (c .before .before .before .before .before .loop-test .taken) (c .before .before .before .before .bit-at .ensures))
+hunting-bit-at-requires : (t : ℕ) → hunting-lts.Need-bit-at-requires (hunting-env t) (hunting-at t) hunting.Post hunting-Inv-loop hunting-μ-loop
+hunting-bit-at-requires t c κs = c .before .before .loop-test .taken
 
-hunting-locked-requires : (t : ℕ) → hunting-lts.Need-locked-requires (hunting-env t) (hunting-at t) hunting.Post hunting-Inv-loop hunting-μ-loop
-hunting-locked-requires t c κs =
-    let a = c .before .before .before .before .before .before .loop .inv in
-    let g = hunt-lock a (c .before .before .before .before .bit-at .result) (c .before .before .before .before .before .loop-test .taken) (c .before .before .before .before .bit-at .ensures) (c .before .before .before .if1 .left) (sym (c .before .before .valid .ensures) ∙ c .before .if2 .taken) in
-    (omega (arith, g .later, c .before .before .before .before .before .before .before .before .before .pre .0, a .later, c .before .before .before .before .before .loop-test .taken), (g .ready, omega (arith, small-26 a (c .before .before .before .before .bit-at .result) (c .before .before .before .before .before .loop-test .taken) (c .before .before .before .before .bit-at .ensures))))
+hunting-add-block : (t : ℕ) → hunting-lts.Need-add-block (hunting-env t) (hunting-at t) hunting.Post hunting-Inv-loop hunting-μ-loop
+hunting-add-block t c = omega (arith, held-25 (c .before .before .before .before .loop .inv .ready), c .bit-at .ensures .1)
 
-hunting-same-length : (t : ℕ) → hunting-lts.Need-same-length (hunting-env t) (hunting-at t) hunting.Post hunting-Inv-loop hunting-μ-loop
-hunting-same-length t c =
-    let g = hunt-lock (c .before .before .before .before .before .before .before .before .before .loop .inv) (c .before .before .before .before .before .before .before .bit-at .result) (c .before .before .before .before .before .before .before .before .loop-test .taken) (c .before .before .before .before .before .before .before .bit-at .ensures) (c .before .before .before .before .before .before .if1 .left) (sym (c .before .before .before .before .before .valid .ensures) ∙ c .before .before .before .before .if2 .taken) in
-    c .before .before .locked .kept .1 .0 ∙ g .onward .same
+hunting-add-from-2 : (t : ℕ) → hunting-lts.Need-add-from-2 (hunting-env t) (hunting-at t) hunting.Post hunting-Inv-loop hunting-μ-loop
+hunting-add-from-2 t c = omega (arith, c .before .before .before .loop-test .taken, c .before .before .before .before .loop .inv .ready .short)
 
-hunting-returns : (t : ℕ) → hunting-lts.Need-returns (hunting-env t) (hunting-at t) hunting.Post hunting-Inv-loop hunting-μ-loop
-hunting-returns t c =
-    let g = hunt-lock (c .before .before .before .before .before .before .before .before .before .loop .inv) (c .before .before .before .before .before .before .before .bit-at .result) (c .before .before .before .before .before .before .before .before .loop-test .taken) (c .before .before .before .before .before .before .before .bit-at .ensures) (c .before .before .before .before .before .before .if1 .left) (sym (c .before .before .before .before .before .valid .ensures) ∙ c .before .before .before .before .if2 .taken) in
-    handed (g .onward) _ _ (c .before .before .locked .ensures)
+hunting-add-count : (t : ℕ) → hunting-lts.Need-add-count (hunting-env t) (hunting-at t) hunting.Post hunting-Inv-loop hunting-μ-loop
+hunting-add-count t c = omega (arith, c .if2 .taken)
 
 hunting-loop-less-2 : (t : ℕ) → hunting-lts.Need-loop-less-2 (hunting-env t) (hunting-at t) hunting.Post hunting-Inv-loop hunting-μ-loop
 hunting-loop-less-2 t c = omega (arith, c .before .before .before .before .loop-test .taken)
 
 hunting-loop-again-2 : (t : ℕ) → hunting-lts.Need-loop-again-2 (hunting-env t) (hunting-at t) hunting.Post hunting-Inv-loop hunting-μ-loop
-hunting-loop-again-2 t c = hunt-slide (c .before .before .before .before .before .loop .inv) (c .before .before .before .bit-at .result) (c .before .before .before .before .loop-test .taken) (c .before .before .before .bit-at .ensures) (c .before .before .if1 .left) (sym (c .before .valid .ensures) ∙ c .if2 .left)
+hunting-loop-again-2 t c = hunt-fill (c .before .before .before .before .before .loop .inv) (c .before .bit-at .result) (c .before .before .before .before .loop-test .taken) (c .before .bit-at .ensures) (c .if2 .taken)
+
+hunting-valid-requires : (t : ℕ) → hunting-lts.Need-valid-requires (hunting-env t) (hunting-at t) hunting.Post hunting-Inv-loop hunting-μ-loop
+hunting-valid-requires t c κs = search needs
+
+hunting-cast-locked : (t : ℕ) → hunting-lts.Need-cast-locked (hunting-env t) (hunting-at t) hunting.Post hunting-Inv-loop hunting-μ-loop
+hunting-cast-locked t c = omega (arith, small-26 (c .before .before .before .before .before .before .before .before .loop .inv) (c .before .before .before .before .bit-at .result) (c .before .before .before .before .before .before .before .loop-test .taken) (c .before .before .before .before .bit-at .ensures))
+
+hunting-locked-requires : (t : ℕ) → hunting-lts.Need-locked-requires (hunting-env t) (hunting-at t) hunting.Post hunting-Inv-loop hunting-μ-loop
+hunting-locked-requires t c κs =
+    let a = c .before .before .before .before .before .before .before .before .loop .inv in
+    let g = hunt-lock (c .before .before .before .before .before .before .before .before .loop .inv) (c .before .before .before .before .bit-at .result) (c .before .before .before .before .before .before .before .loop-test .taken) (c .before .before .before .before .bit-at .ensures) (c .before .before .before .if2 .left) (sym (c .before .before .valid .ensures) ∙ c .before .if3 .taken) in
+    (omega (arith, g .later, c .before .before .before .before .before .before .before .before .before .before .before .pre .0, a .later, c .before .before .before .before .before .before .before .loop-test .taken), (g .ready, omega (arith, small-26 (c .before .before .before .before .before .before .before .before .loop .inv) (c .before .before .before .before .bit-at .result) (c .before .before .before .before .before .before .before .loop-test .taken) (c .before .before .before .before .bit-at .ensures))))
+
+hunting-same-length : (t : ℕ) → hunting-lts.Need-same-length (hunting-env t) (hunting-at t) hunting.Post hunting-Inv-loop hunting-μ-loop
+hunting-same-length t c =
+    let g = hunt-lock (c .before .before .before .before .before .before .before .before .before .before .before .loop .inv) (c .before .before .before .before .before .before .before .bit-at .result) (c .before .before .before .before .before .before .before .before .before .before .loop-test .taken) (c .before .before .before .before .before .before .before .bit-at .ensures) (c .before .before .before .before .before .before .if2 .left) (sym (c .before .before .before .before .before .valid .ensures) ∙ c .before .before .before .before .if3 .taken) in
+    c .before .before .locked .kept .1 .0 ∙ g .onward .same
+
+hunting-returns : (t : ℕ) → hunting-lts.Need-returns (hunting-env t) (hunting-at t) hunting.Post hunting-Inv-loop hunting-μ-loop
+hunting-returns t c =
+    let g = hunt-lock (c .before .before .before .before .before .before .before .before .before .before .before .loop .inv) (c .before .before .before .before .before .before .before .bit-at .result) (c .before .before .before .before .before .before .before .before .before .before .loop-test .taken) (c .before .before .before .before .before .before .before .bit-at .ensures) (c .before .before .before .before .before .before .if2 .left) (sym (c .before .before .before .before .before .valid .ensures) ∙ c .before .before .before .before .if3 .taken) in
+    handed (g .onward) _ _ (c .before .before .locked .ensures)
+
+hunting-loop-less-3 : (t : ℕ) → hunting-lts.Need-loop-less-3 (hunting-env t) (hunting-at t) hunting.Post hunting-Inv-loop hunting-μ-loop
+hunting-loop-less-3 t c = omega (arith, c .before .before .before .before .before .before .loop-test .taken)
+
+hunting-loop-again-3 : (t : ℕ) → hunting-lts.Need-loop-again-3 (hunting-env t) (hunting-at t) hunting.Post hunting-Inv-loop hunting-μ-loop
+hunting-loop-again-3 t c = hunt-slide (c .before .before .before .before .before .before .before .loop .inv) (c .before .before .before .bit-at .result) (c .before .before .before .before .before .before .loop-test .taken) (c .before .before .before .bit-at .ensures) (c .before .before .if2 .left) (sym (c .before .valid .ensures) ∙ c .if3 .left)
 
 hunting-same-length-2 : (t : ℕ) → hunting-lts.Need-same-length-2 (hunting-env t) (hunting-at t) hunting.Post hunting-Inv-loop hunting-μ-loop
 hunting-same-length-2 t c = c .before .loop .inv .onward .same
@@ -238,20 +258,26 @@ pub +hunting+locked-spec : {M : Type 1} → statement M
     hunting-μ-loop
     (hunting-loop-holds t)
     (hunting-mul-loop t)
+    (hunting-passing-requires t)
+    (hunting-word-at-requires t)
+    (hunting-cast-held t)
+    (hunting-add-from t)
+    (hunting-loop-less t)
+    (hunting-loop-again t)
     (hunting-mul-block t)
     (hunting-bit-at-requires t)
     (hunting-add-block t)
-    (hunting-add-from t)
+    (hunting-add-from-2 t)
     (hunting-add-count t)
-    (hunting-loop-less t)
-    (hunting-loop-again t)
+    (hunting-loop-less-2 t)
+    (hunting-loop-again-2 t)
     (hunting-valid-requires t)
     (hunting-cast-locked t)
     (hunting-locked-requires t)
     (hunting-same-length t)
     (hunting-returns t)
-    (hunting-loop-less-2 t)
-    (hunting-loop-again-2 t)
+    (hunting-loop-less-3 t)
+    (hunting-loop-again-3 t)
     (hunting-same-length-2 t)
     (hunting-returns-2 t))
     λ t. locked-lts.spec (locked-env t)

@@ -1,30 +1,13 @@
-#!/usr/bin/env python3
-"""Air bytes to try the chain with, written from paper 01 alone. The same seed makes the same bytes.
+"""Air bytes to try the receiver and the collector with. The same seed makes the same bytes.
 
-  tests/make_air.py SEED      writes stream SEED to standard output
+  python3 -m compare.streams SEED       writes stream SEED to standard output; run it in tests/
 """
 import random
 import sys
 
-OFFSETS = (0x0FC, 0x198, 0x168, 0x1B4)
+from model.checks import block, packet_check
 
-
-def check(info):
-    """What is left of info times x^10, divided by the generator."""
-    rest = info << 10
-    for i in range(15, -1, -1):
-        if rest >> (i + 10) & 1:
-            rest ^= 0b10110111001 << i
-    return rest
-
-
-def crc16(data):
-    r = 0xFFFF
-    for byte in data:
-        r ^= byte << 8
-        for _ in range(8):
-            r = (r << 1 ^ (0x1021 if r & 0x8000 else 0)) & 0xFFFF
-    return r
+KINDS = ("clean", "noise", "damaged", "cut", "mixed", "short", "clean", "damaged", "cut", "mixed")
 
 
 def packet(rng, size):
@@ -41,7 +24,7 @@ def frame(level, version, total, number, four, fixed=0b101100000000):
 def frames(rng, level, version, data, fault=None):
     """The frames of a packet; a fault makes its check or its fill wrong."""
     total = (len(data) + 5) // 4
-    joined = bytearray(data) + crc16(data).to_bytes(2, "big") + b"\xff" * (total * 4 - len(data) - 2)
+    joined = bytearray(data) + packet_check(data).to_bytes(2, "big") + b"\xff" * (total * 4 - len(data) - 2)
     if fault:
         joined[-1] ^= 1 << rng.randrange(8)
     return [frame(level, version, total, k, bytes(joined[4 * k : 4 * k + 4])) for k in range(total)]
@@ -49,12 +32,7 @@ def frames(rng, level, version, data, fault=None):
 
 def bits_of(some):
     """The bits on air of some frames, as text."""
-    out = []
-    for f in some:
-        for k, offset in enumerate(OFFSETS):
-            info = f[2 * k] << 8 | f[2 * k + 1]
-            out.append(format(info << 10 | check(info) ^ offset, "026b"))
-    return "".join(out)
+    return "".join(format(block(f[2 * k] << 8 | f[2 * k + 1], k), "026b") for f in some for k in range(4))
 
 
 def packed(bits):
@@ -75,9 +53,9 @@ def odd_frame(rng):
     return rng.randbytes(8)
 
 
-def traffic(rng):
+def traffic(rng, most=6):
     """Frames of some packets: in order, or shuffled, with repeats, contradictions and odd ones."""
-    pairs = [(rng.randrange(1, 7), rng.randrange(32)) for _ in range(rng.choice((1, 2, 3, 4, 4, 6)))]
+    pairs = [(rng.randrange(1, 7), rng.randrange(32)) for _ in range(rng.choice((1, 2, 3, 4, 4, most)))]
     sent = []
     for level, version in pairs:
         data = packet(rng, rng.choice((2, 3, 5, 8, 30, 77, 78, 79, 250)))
@@ -105,11 +83,27 @@ def noise(rng, n):
     return "".join(rng.choice("01") for _ in range(n))
 
 
+def short(rng):
+    """One or two frames behind a few bits, with a bit turned or not, and cut or not."""
+    bits = noise(rng, rng.choice((0, 0, 1, 25, 26, 40))) + bits_of(traffic(rng)[: rng.randrange(1, 3)])
+    bits = damaged(rng, bits) if rng.randrange(2) else bits
+    return bits[: rng.choice((len(bits), rng.randrange(len(bits))))]
+
+
+def long(rng):
+    """Packets one after another, of up to some thousand frames, damaged here and there."""
+    return "".join(damaged(rng, bits_of(traffic(rng, 40))) for _ in range(rng.randrange(4, 16)))
+
+
 def stream(seed):
     rng = random.Random(seed)
-    kind = ("clean", "noise", "damaged", "cut", "mixed")[seed % 5]
+    kind = "long" if seed % 100 == 99 else KINDS[seed % len(KINDS)]
     if kind == "noise":
         return kind, rng.randbytes(rng.choice((0, 1, 3, 13, 511, 512, 513, 1500)))
+    if kind == "short":
+        return kind, packed(short(rng))
+    if kind == "long":
+        return kind, packed(long(rng))
     bits = bits_of(traffic(rng))
     if kind == "cut":
         a = rng.randrange(len(bits))

@@ -1,0 +1,289 @@
+/* Ours beside plain C: the same inputs to both, first that they agree, then how long each takes. See docs/PERFORMANCE.md. */
+#include "plain.h"
+
+/* Ours, from the static library of crates/radio. A slice is its first byte's address and its length. */
+struct radio {
+    uint32_t phase, bits, count;
+    uint64_t words;
+};
+struct heard {
+    uint8_t answer;
+    size_t frames;
+    struct radio radio;
+};
+struct radio radio_fresh(void);
+struct heard radio_receive(struct radio r, const uint8_t *delivery, size_t n, uint8_t *out, size_t room);
+uint16_t radio_packet_check(const uint8_t *bytes, size_t n);
+
+/* The little of the C library that is used; a cross compiler may come without its headers. */
+struct timespec {
+    long seconds, nanos;
+};
+extern int printf(const char *form, ...);
+extern int clock_gettime(int clock, struct timespec *now);
+extern int strcmp(const char *a, const char *b);
+extern int memcmp(const void *a, const void *b, size_t n);
+enum { OWN_TIME = 2 };
+
+enum { ROUNDS = 7, PIECE = 512, MOST = 2000 * PIECE, ROOM = 320 };
+static uint8_t air[MOST];
+
+static uint64_t seed = 0x9E3779B97F4A7C15;
+static uint32_t chance(uint32_t below)
+{
+    seed ^= seed << 13;
+    seed ^= seed >> 7;
+    seed ^= seed << 17;
+    return (uint32_t)(seed >> 32) % below;
+}
+
+/* Air is made bit by bit. */
+static size_t at;
+static void put_bits(uint32_t bits, int n, size_t size)
+{
+    for (int k = n - 1; k >= 0 && at < size * 8; k--, at++) {
+        uint8_t bit = (uint8_t)(0x80 >> at % 8);
+        if (bits >> k & 1)
+            air[at / 8] |= bit;
+        else
+            air[at / 8] &= (uint8_t)~bit;
+    }
+}
+
+static uint32_t block(uint32_t info, unsigned offset)
+{
+    uint32_t rest = info << 10;
+    for (int i = 25; i >= 10; i--)
+        if (rest >> i & 1)
+            rest ^= (uint32_t)0x5B9 << (i - 10);
+    return info << 10 | (rest ^ offset);
+}
+
+static const unsigned offsets[4] = {0x0FC, 0x198, 0x168, 0x1B4};
+static void put_frame(size_t size, uint32_t wrong)
+{
+    for (int k = 0; k < 4; k++)
+        put_bits(block(chance(65536), offsets[k]) ^ (k == 2 ? wrong : 0), 26, size);
+}
+
+static void clean(size_t size)
+{
+    at = 0;
+    while (at < size * 8)
+        put_frame(size, 0);
+}
+
+static void noise(size_t size)
+{
+    at = 0;
+    while (at < size * 8)
+        put_bits(chance(256), 8, size);
+}
+
+/* One to eight frames, the last of them with a wrong bit every second time, then up to 399 bits of noise. */
+static void mixture(size_t size)
+{
+    at = 0;
+    while (at < size * 8) {
+        for (uint32_t k = chance(8); k > 0; k--)
+            put_frame(size, 0);
+        put_frame(size, chance(2) << chance(26));
+        for (uint32_t k = chance(400); k > 0; k--)
+            put_bits(chance(2), 1, size);
+    }
+}
+
+/* A run over the first `size` bytes of air in deliveries of `piece`: how many frames. */
+static size_t ours(size_t size, size_t piece)
+{
+    uint8_t out[ROOM];
+    size_t frames = 0;
+    struct radio r = radio_fresh();
+    for (size_t i = 0; i < size; i += piece) {
+        struct heard h = radio_receive(r, air + i, size - i < piece ? size - i : piece, out, ROOM);
+        r = h.radio;
+        frames += h.frames;
+    }
+    return frames;
+}
+
+typedef int receive_fn(struct plain_receiver *, const uint8_t *, size_t, uint8_t *, size_t);
+static size_t in_c(receive_fn *receive, size_t size, size_t piece)
+{
+    uint8_t out[ROOM];
+    size_t frames = 0;
+    struct plain_receiver r = {0, 0, 0, 0};
+    for (size_t i = 0; i < size; i += piece)
+        frames += (size_t)receive(&r, air + i, size - i < piece ? size - i : piece, out, ROOM);
+    return frames;
+}
+
+static int wrong;
+static void differ(const char *where, size_t place)
+{
+    printf("DIFFERENT: %s, at %zu\n", where, place);
+    wrong = 1;
+}
+
+/* Every delivery: answer, frames, the whole lent output, and the receiver left, as far as its bits mean something. */
+static void agree(const char *where, receive_fn *receive, size_t size, size_t piece)
+{
+    uint8_t mine[ROOM], theirs[ROOM];
+    struct radio r = radio_fresh();
+    struct plain_receiver p = {0, 0, 0, 0};
+    for (size_t i = 0; i < ROOM; i++)
+        mine[i] = theirs[i] = (uint8_t)i;
+    for (size_t i = 0; i < size && !wrong; i += piece) {
+        size_t n = size - i < piece ? size - i : piece;
+        struct heard h = radio_receive(r, air + i, n, mine, ROOM);
+        int frames = receive(&p, air + i, n, theirs, ROOM);
+        r = h.radio;
+        uint64_t held = ((uint64_t)1 << r.count) - 1;
+        uint64_t begun = r.phase < 2 ? 0 : ((uint64_t)1 << 16 * (r.phase - 1)) - 1;
+        if (h.answer != 0 || frames < 0 || h.frames != (size_t)frames || memcmp(mine, theirs, ROOM) != 0)
+            differ(where, i);
+        if (r.phase != p.phase || r.count != p.count || (r.bits & held) != (p.bits & held) || (r.words & begun) != (p.words & begun))
+            differ(where, i);
+    }
+}
+
+static void agree_all(const char *where, size_t size)
+{
+    static const size_t pieces[5] = {512, 511, 13, 7, 1};
+    for (int k = 0; k < 5; k++) {
+        agree(where, plain_receive, size, pieces[k]);
+        agree(where, table_receive, size, pieces[k]);
+        agree(where, same_receive, size, pieces[k]);
+    }
+}
+
+static void checks_agree(void)
+{
+    for (size_t n = 0; n <= 600; n++)
+        for (size_t from = 0; from < 4000; from += 997) {
+            uint16_t mine = radio_packet_check(air + from, n);
+            if (mine != plain_packet_check(air + from, n) || mine != table_packet_check(air + from, n) || mine != same_packet_check(air + from, n))
+                differ("packet check", n);
+        }
+}
+
+static void refusals_agree(void)
+{
+    uint8_t out[ROOM];
+    struct plain_receiver p = {0, 0, 26, 0}, q = {0, 0, 0, 0};
+    struct radio r = {0, 0, 26, 0};
+    if (radio_receive(r, air, 1, out, ROOM).answer != -plain_receive(&p, air, 1, out, ROOM))
+        differ("26 bits held", 0);
+    if (radio_receive(radio_fresh(), air, 513, out, ROOM).answer != -plain_receive(&q, air, 513, out, ROOM))
+        differ("513 bytes", 0);
+    if (radio_receive(radio_fresh(), air, 512, out, 319).answer != -plain_receive(&q, air, 512, out, 319))
+        differ("an output of 319", 0);
+}
+
+static double now(void)
+{
+    struct timespec t;
+    clock_gettime(OWN_TIME, &t);
+    return (double)t.seconds * 1e3 + (double)t.nanos / 1e6;
+}
+
+static double median(double *times)
+{
+    for (int i = 1; i < ROUNDS; i++)
+        for (int k = i; k > 0 && times[k] < times[k - 1]; k--) {
+            double t = times[k];
+            times[k] = times[k - 1];
+            times[k - 1] = t;
+        }
+    return times[ROUNDS / 2];
+}
+
+/* What is timed, one of four at a time; `way` 0 is ours. */
+enum { WAYS = 4 };
+typedef size_t work_fn(int way, size_t a, size_t b);
+
+static receive_fn *const receives[WAYS] = {0, plain_receive, table_receive, same_receive};
+static size_t receiving(int way, size_t size, size_t piece)
+{
+    return way == 0 ? ours(size, piece) : in_c(receives[way], size, piece);
+}
+
+typedef uint16_t check_fn(const uint8_t *, size_t);
+static check_fn *const packet_checks[WAYS] = {radio_packet_check, plain_packet_check, table_packet_check, same_packet_check};
+
+static size_t checking(int way, size_t length, size_t times)
+{
+    size_t sum = 0;
+    for (size_t i = 0; i < times; i++)
+        sum += packet_checks[way](air + i % 64, length);
+    return sum;
+}
+
+/* All in turn, ROUNDS times, after one turn that is not counted; the medians, and ours over each of the others. */
+static void measure(const char *what, work_fn *work, size_t a, size_t b, double units)
+{
+    double times[WAYS][ROUNDS];
+    for (int round = -1; round < ROUNDS; round++)
+        for (int turn = 0; turn < WAYS; turn++) {
+            int way = (turn + round + WAYS) % WAYS;
+            double start = now();
+            volatile size_t sink = work(way, a, b);
+            (void)sink;
+            if (round >= 0)
+                times[way][round] = now() - start;
+        }
+    double m[WAYS];
+    for (int way = 0; way < WAYS; way++)
+        m[way] = median(times[way]);
+    printf("| %-25s | %8.2f | %8.2f | %8.2f | %8.2f | %6.2f | %6.2f | %6.2f | %6.2f |\n", what, m[0], m[1], m[2], m[3], m[0] / m[1], m[0] / m[2], m[0] / m[3], m[0] * 1e6 / units);
+}
+
+static void head(const char *unit)
+{
+    printf("\n| %-25s | ours, ms | plain C  | table C  | same C   | /plain | /table | /same  | ns a %s |\n", "", unit);
+    printf("|---------------------------|----------|----------|----------|----------|--------|--------|--------|--------|\n");
+}
+
+typedef void make_fn(size_t size);
+static make_fn *const kinds[3] = {clean, noise, mixture};
+static const char *const names[3] = {"clean air", "noise", "mixture"};
+static const char *const doubled[3][4] = {
+    {"clean air, 128000 bytes", "clean air, 256000 bytes", "clean air, 512000 bytes", "clean air, 1024000 bytes"},
+    {"noise, 128000 bytes", "noise, 256000 bytes", "noise, 512000 bytes", "noise, 1024000 bytes"},
+    {"mixture, 128000 bytes", "mixture, 256000 bytes", "mixture, 512000 bytes", "mixture, 1024000 bytes"},
+};
+static const char *const pieces[5] = {"deliveries of 32 bytes", "deliveries of 64 bytes", "deliveries of 128 bytes", "deliveries of 256 bytes", "deliveries of 512 bytes"};
+static const size_t lengths[8] = {2, 77, 250, 64, 128, 256, 512, 1024};
+static const char *const check_names[8] = {"packet check of 2 bytes", "packet check of 77 bytes", "packet check of 250 bytes", "64 bytes", "128 bytes", "256 bytes", "512 bytes", "1024 bytes"};
+
+int main(int argc, char **argv)
+{
+    table_prepare();
+    for (int k = 0; k < 3; k++) {
+        kinds[k](128 * 1000);
+        agree_all(names[k], 128 * 1000);
+        printf("%s: %zu frames in 128000 bytes\n", names[k], ours(128 * 1000, PIECE));
+    }
+    noise(8192);
+    checks_agree();
+    refusals_agree();
+    if (wrong)
+        return 1;
+    printf("ours and the three C programs agree\n");
+    if (argc > 1 && strcmp(argv[1], "--same") == 0)
+        return 0;
+    head("bit");
+    for (int k = 0; k < 3; k++) {
+        kinds[k](MOST);
+        for (size_t d = 0, size = MOST / 8; size <= MOST; d++, size *= 2)
+            measure(doubled[k][d], receiving, size, PIECE, (double)size * 8);
+    }
+    for (size_t d = 0; d < 5; d++)
+        measure(pieces[d], receiving, MOST / 8, (size_t)32 << d, (double)MOST);
+    head("byte");
+    for (int k = 0; k < 8; k++) {
+        size_t times = k == 0 ? 500000 : 4000000 / lengths[k];
+        measure(check_names[k], checking, lengths[k], times, (double)(times * lengths[k]));
+    }
+    return 0;
+}

@@ -1,0 +1,24 @@
+/* Both divisions as the standard writes them: bit by bit, the generator taken off wherever its highest bit stands. */
+#include "plain.h"
+
+static int valid(uint32_t block, unsigned offset)
+{
+    for (int i = 25; i >= 10; i--)
+        if (block >> i & 1)
+            block ^= (uint32_t)0x5B9 << (i - 10);
+    return block == offset;
+}
+
+#define RECEIVE plain_receive
+#include "rule.h"
+
+uint16_t plain_packet_check(const uint8_t *bytes, size_t n)
+{
+    uint16_t reg = 0xFFFF;
+    for (size_t i = 0; i < n; i++) {
+        reg ^= (uint16_t)(bytes[i] << 8);
+        for (int k = 0; k < 8; k++)
+            reg = reg & 0x8000 ? (uint16_t)(reg << 1 ^ 0x1021) : (uint16_t)(reg << 1);
+    }
+    return reg;
+}

@@ -1,0 +1,41 @@
+/* The same rule with the divisions looked up: two tables of 256 for a block, one of 256 for the packet check. */
+#include "plain.h"
+
+static uint16_t high[256], low[256], crc[256];
+
+static uint16_t block_check(uint32_t info)
+{
+    uint32_t rest = info << 10;
+    for (int i = 25; i >= 10; i--)
+        if (rest >> i & 1)
+            rest ^= (uint32_t)0x5B9 << (i - 10);
+    return (uint16_t)rest;
+}
+
+void table_prepare(void)
+{
+    for (uint32_t b = 0; b < 256; b++) {
+        high[b] = block_check(b << 8);
+        low[b] = block_check(b);
+        uint16_t reg = (uint16_t)(b << 8);
+        for (int k = 0; k < 8; k++)
+            reg = reg & 0x8000 ? (uint16_t)(reg << 1 ^ 0x1021) : (uint16_t)(reg << 1);
+        crc[b] = reg;
+    }
+}
+
+static int valid(uint32_t block, unsigned offset)
+{
+    return (high[block >> 18] ^ low[block >> 10 & 0xFF] ^ (block & 0x3FF)) == offset;
+}
+
+#define RECEIVE table_receive
+#include "rule.h"
+
+uint16_t table_packet_check(const uint8_t *bytes, size_t n)
+{
+    uint16_t reg = 0xFFFF;
+    for (size_t i = 0; i < n; i++)
+        reg = (uint16_t)(reg << 8 ^ crc[(reg >> 8 ^ bytes[i]) & 0xFF]);
+    return reg;
+}

@@ -1,0 +1,54 @@
+// Parts of the input. What is asked for past its end is 0, or nothing.
+ghost use mathlib.Core.Path.{_≡_};
+ghost use Prim.Native.Nat.{_≤_};
+ghost use lib.ListN.{length};
+
+pub(crate) fn least(n: usize, m: usize) -> usize
+    ensures { λ r. ⌜ (r ≤ n) × (r ≤ m) ⌝ }
+{
+    if n < m { n } else { m }
+}
+
+pub(crate) fn byte(b: &[u8], i: usize) -> u8 {
+    if i < b.len() { b[i] } else { 0 }
+}
+
+// A number of two bytes.
+pub(crate) fn two(b: &[u8], i: usize) -> u16
+    requires { ⌜ i ≤ 1000 ⌝ }
+{
+    byte(b, i) as u16 * 256 + byte(b, i + 1) as u16
+}
+
+// A number of four bytes.
+pub(crate) fn four(b: &[u8], i: usize) -> u32
+    requires { ⌜ i ≤ 900 ⌝ }
+{
+    two(b, i) as u32 * 65536 + two(b, i + 2) as u32
+}
+
+// k bytes from a byte on; as many as there are.
+pub(crate) fn part(b: &[u8], from: usize, k: usize) -> &[u8] {
+    let p = b.len();
+    if p <= from {
+        return &b[0..0];
+    }
+    if k < p - from {
+        let e = from + k;
+        &b[from..e]
+    } else {
+        &b[from..p]
+    }
+}
+
+// Copies bytes until the output is full; zeros where there are no more.
+pub(crate) fn fill(b: &[u8], out: &mut [u8])
+    ensures { λ _. ⌜ length (now (out .exit)) ≡ length (now (out .entry)) ⌝ }
+{
+    let n = out.len();
+    let mut i: usize = 0;
+    while i < n {
+        out[i] = byte(b, i);
+        i += 1;
+    }
+}

@@ -1,0 +1,1 @@
+"""Holds the proved programs to the model on seeded inputs."""

@@ -1,0 +1,137 @@
+#!/usr/bin/env python3
+"""Looks up what the documents name: a name that is gone, a public function without its row, an edit that no page mentions, each ends this with status 1.
+
+  tests/docs.py [ROOT]
+"""
+import glob
+import os
+import re
+import sys
+
+ROOT = sys.argv[1] if len(sys.argv) > 1 else os.path.join(os.path.dirname(os.path.abspath(__file__)), "..")
+NAMED = re.compile(r"`([a-z_]+)(::|:(?!:)|!)([^`]+)`")
+faults = []
+
+
+def text(path):
+    with open(os.path.join(ROOT, path), encoding="utf-8") as f:
+        return f.read()
+
+
+def files(pattern):
+    return sorted(os.path.relpath(p, ROOT) for p in glob.glob(os.path.join(ROOT, pattern), recursive=True))
+
+
+def fault(page, what):
+    faults.append("%s: %s" % (page, what))
+
+
+def names(some):
+    """`a` or `{a, b}`; what stands in brackets behind a function's name is not looked at."""
+    some = some.split("(")[0].strip()
+    return [n.strip() for n in some.strip("{}").split(",")]
+
+
+def declares(path, name):
+    """A definition or a law of antt, at the margin or inside a module; a field or a constructor counts too."""
+    words = r"(?:pub |abbrev |unfoldable |record |data )*"
+    return re.search(r"^\s*%s%s(?=[\s:({])" % (words, re.escape(name)), text(path), re.M)
+
+
+def law(page, crate, some):
+    where, dot, rest = some.partition(".")
+    places = [p for part in ("specs", "proofs") for p in files("crates/%s/%s/%s.antt" % (crate, part, where))]
+    if not places or not dot:
+        return fault(page, "no file `%s:%s`" % (crate, where))
+    for name in names(rest):
+        if not any(declares(p, name) for p in places):
+            fault(page, "no `%s:%s.%s`" % (crate, where, name))
+
+
+def code(page, crate, some):
+    source = "".join(text(p) for p in files("crates/%s/src/**/*.rt" % crate))
+    for name in names(some):
+        if not re.search(r"\b(?:fn|struct|enum) %s\b" % re.escape(name), source):
+            fault(page, "no `%s::%s`" % (crate, name))
+
+
+def edit(page, crate, some):
+    for name in names(some):
+        if not files("crates/%s/must-fail/%s.edit" % (crate, name)):
+            fault(page, "no edit `%s!%s`" % (crate, name))
+
+
+def page_holds(page):
+    """Every name, program and path of a page is there."""
+    for crate, kind, some in NAMED.findall(text(page)):
+        {"::": code, ":": law, "!": edit}[kind](page, crate, some)
+    for line in re.findall(r"programs? ((?:`[a-z_]+`(?:, | and )?)+)", text(page)):
+        for program in re.findall(r"`([a-z_]+)`", line):
+            if not files("crates/%s/stdout" % program):
+                fault(page, "no program `%s`" % program)
+    for path in re.findall(r"(?<![\w/.])((?:crates|docs|tests|tools|run|bench)/[\w./-]*\w)", text(page)):
+        if not re.search(r"\b(CRATE|NAME|LABEL|File)\b", path) and not path.startswith("docs/0") and not files(path):
+            fault(page, "no path %s" % path)
+
+
+def public_functions():
+    """Every public function of a library with its contract's text."""
+    for path in files("crates/*/src/**/*.rt"):
+        crate = path.split("/")[1]
+        if not files("crates/%s/stdout" % crate):
+            for name, contract in re.findall(r"^pub (?:extern \"C\" )?fn (\w+)(.*?)^\{", text(path), re.M | re.S):
+                yield crate, name, contract
+
+
+def contracts_hold():
+    page = "docs/CONTRACTS.md"
+    rows = {m.group(1): m.group(0) for m in re.finditer(r"^\| `([a-z_]+::\w+)\(.*$", text(page), re.M)}
+    for crate, name, contract in public_functions():
+        row = rows.pop("%s::%s" % (crate, name), None)
+        if "ensures" not in contract or "requires" in contract:
+            fault(crate, "`%s` is public and its contract has no `ensures`, or has a `requires`" % name)
+        if row is None:
+            fault(page, "no row for `%s::%s`" % (crate, name))
+        elif sum(len(names(some)) for _, kind, some in NAMED.findall(row) if kind == "!") < 2:
+            fault(page, "fewer than two edits for `%s::%s`" % (crate, name))
+    for gone in rows:
+        fault(page, "a row for `%s`, which is no public function" % gone)
+
+
+def map_is_full():
+    """No cell of a lettered row is empty: an empty one is a rule that nothing shows."""
+    for row in re.findall(r"^\| [A-Z]\d+ \|.*$", text("docs/MAP.md"), re.M):
+        if not all(cell.strip() for cell in row.strip("|").split("|")):
+            fault("docs/MAP.md", "an empty cell in row %s" % row.split("|")[1].strip())
+
+
+def edits_are_told():
+    told = {(crate, name) for page in ("docs/MAP.md", "docs/CONTRACTS.md") for crate, kind, some in NAMED.findall(text(page)) if kind == "!" for name in names(some)}
+    for path in files("crates/*/must-fail/*.edit"):
+        crate, label = path.split("/")[1], os.path.basename(path)[: -len(".edit")]
+        if (crate, label) not in told:
+            fault(path, "no page names this edit")
+
+
+def crates_are_told():
+    listed = re.findall(r"^([a-z_]+):", text("crates.txt"), re.M)
+    for page in ("README.md", "docs/ARCHITECTURE.md"):
+        for crate in listed:
+            if "`%s`" % crate not in text(page):
+                fault(page, "no word of the crate %s" % crate)
+
+
+def main():
+    pages = ["README.md"] + files("docs/*.md")
+    for page in pages:
+        page_holds(page)
+    contracts_hold()
+    map_is_full()
+    edits_are_told()
+    crates_are_told()
+    if faults:
+        sys.exit("\n".join(faults))
+    print("docs: every name on %d pages is there; each of %d public functions has its row and two edits" % (len(pages), len(list(public_functions()))))
+
+
+main()
