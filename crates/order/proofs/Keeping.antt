@@ -169,9 +169,9 @@ taken-total : (x : Piece) → taken x .total .0 ≡ x .heading .total .0
 unfolding taken
 taken-total x = refl
 
-stored-key : (p : Place) (x : Piece) → (stored p x .level ≡ p .level) × (stored p x .version ≡ p .version)
+stored-number : (p : Place) (x : Piece) → (stored p x .level ≡ p .level) × (stored p x .version ≡ p .version)
 unfolding stored
-stored-key p x = (refl, refl)
+stored-number p x = (refl, refl)
 
 pub kept-collector : (c : Collector) (i : ℕ) (p : Place) (x : Piece) → kept c i p x .collector ≡ put c i (stored p x)
 unfolding kept
@@ -199,7 +199,7 @@ module _ (c : Collector) (x : Piece) (g : Good c) (b : Bounds (x .heading)) wher
       let q = stored (taken x) x in
       let n = b .number-below in
       let fp = taken-pair x in
-      let sk = stored-key (taken x) x in
+      let sk = stored-number (taken x) x in
       record {
         count = length-set (c .places) (atFree c) q ∙ g .count;
         shape = all-set shaped (c .places) (atFree c) q (g .shape) (stored-shaped (taken x) x ∙ taken-shaped x);

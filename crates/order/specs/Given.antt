@@ -32,8 +32,8 @@ abbrev pub ofPair : ℕ → ℕ → Piece → Bool
 ofPair l v x = eqb (x .heading .level) l && eqb (x .heading .version) v
 
 -- of this pair and this number (01, Collector)
-abbrev pub ofKey : ℕ → ℕ → Number → Piece → Bool
-ofKey l v n x = ofPair l v x && eqb (x .heading .number .0) (n .0)
+abbrev pub ofNumber : ℕ → ℕ → Number → Piece → Bool
+ofNumber l v n x = ofPair l v x && eqb (x .heading .number .0) (n .0)
 
 -- the same four bytes (01, Collector)
 abbrev pub sameBytes : Piece → Piece → Bool
@@ -83,7 +83,7 @@ firstOf is val (x ∷ xs) = cond (is x) (some (val x)) (firstOf is val xs)
 
 -- the four bytes of a pair's number (demand 3)
 abbrev pub given : List Piece → ℕ → ℕ → Number → Option Four
-given xs l v n = firstOf (ofKey l v n) four xs
+given xs l v n = firstOf (ofNumber l v n) four xs
 
 -- the total of a pair (demand 3)
 abbrev pub totalGiven : List Piece → ℕ → ℕ → Option Total
@@ -94,7 +94,7 @@ totalGiven xs l v = firstOf (ofPair l v) (λ x. x .heading .total) xs
 -- the same frame: heading and four bytes (demand 3)
 unfoldable pub same : Piece → Piece → Bool
 same x y =
-    ofKey (y .heading .level) (y .heading .version) (y .heading .number) x
+    ofNumber (y .heading .level) (y .heading .version) (y .heading .number) x
     && (eqb (x .heading .total .0) (y .heading .total .0) && sameBytes x y)
 
 -- the same frame is among these (01, Numbers given back, 2)

@@ -28,9 +28,9 @@ unfoldable pub fourAt : Place → Number → Option Four
 fourAt p n = cond (marked p n) (some (bytesAt p n)) none
 
 -- the place that is held for a pair (demand 3)
-unfoldable pub lookup : ℕ → ℕ → List Place → Option Place
-lookup l v [] = none
-lookup l v (p ∷ ps) = cond (isPair l v p) (some p) (lookup l v ps)
+unfoldable pub heldPlace : ℕ → ℕ → List Place → Option Place
+heldPlace l v [] = none
+heldPlace l v (p ∷ ps) = cond (isPair l v p) (some p) (heldPlace l v ps)
 
 -- what a place holds at a number, where there is one (demand 3)
 abbrev pub holdsIn : Option Place → Number → Option Four
@@ -44,11 +44,11 @@ totalIn (some p) = some (p .total)
 
 -- the four bytes held for a pair's number (demand 3)
 unfoldable pub holds : Collector → ℕ → ℕ → Number → Option Four
-holds c l v n = holdsIn (lookup l v (c .places)) n
+holds c l v n = holdsIn (heldPlace l v (c .places)) n
 
 -- the total held for a pair (demand 3)
 unfoldable pub totalHeld : Collector → ℕ → ℕ → Option Total
-totalHeld c l v = totalIn (lookup l v (c .places))
+totalHeld c l v = totalIn (heldPlace l v (c .places))
 
 -- the frames offered one after the other (demand 3)
 unfoldable pub offerAll : Collector → List (List ℕ) → Collector

@@ -12,6 +12,7 @@ use Rattle.air.specs.OnAir.{framesFor}
 use Rattle.packet.specs.declared.Fields.{Fields}
 use Rattle.packet.specs.Writing.{sizeFor, bytesFor, writtenAnswer}
 use Rattle.packet.specs.Examples.{textSample, holdSample}
+use Rattle.frame.specs.Examples.{numbered}
 
 -- what an example says (01, Pier examples)
 pub data Example : Type 0 where
@@ -38,10 +39,6 @@ holds (packet f codes body size first second) =
     && (eqb (sizeFor f body) size && (eqb (getD (bytesFor f codes body) 0 0) first && eqb (getD (bytesFor f codes body) 1 0) second))
 holds (refused f codes body answer) = eqb (writtenAnswer f codes body 4096) answer
 holds (frames size count fill) = eqb (framesFor size) count && eqb (count * 4) (size + 2 + fill)
-
--- level 5, version 3, total 20 (01, Pier examples)
-abbrev pub numbered : ℕ → Heading
-numbered n = record { level = 5; version = 3; total = record { 0 = 20 }; number = record { 0 = n } }
 
 -- the cases in the order of the paper (01, Pier examples)
 unfoldable pub examples : List Example
