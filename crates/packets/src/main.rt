@@ -25,11 +25,11 @@ fn record(b: &[u8]) -> usize
 fn main() {
     let mut records = io::large_buffer();
     let n = io::read_full(STDIN_FILENO, &mut records);
-    let all = input::part(&records, 0, n);
+    let all = format::part(&records, 0, n);
     let end = input::least(all.len(), 65536);
     let mut i: usize = 0;
     while i < end {
-        let length = record(input::part(all, i, 65536));
+        let length = record(format::part(all, i, 65536));
         if length == 0 {
             say::text(b"no whole record\n");
             return;

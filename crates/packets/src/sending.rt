@@ -29,7 +29,7 @@ pub(crate) fn record(b: &[u8]) -> usize
         return 0;
     }
     sent(
-        input::part(b, 7, size),
+        format::part(b, 7, size),
         input::byte(b, 1),
         input::byte(b, 2),
         input::two(b, 3) as usize,
