@@ -1,11 +1,10 @@
 """The commands of tools/prove that read the whole project: imports, unused, alike, figures."""
 import os
 import re
-import sys
 from collections import defaultdict
 from typing import Dict, Iterable, List, Set, Tuple
 
-from sources import ALIAS, IMPORT, KEYWORDS, Item, Name, Source, cited, crates, files, read, read_all, tokens, words
+from sources import ALIAS, IMPORT, KEYWORDS, Name, Source, cited, crates, files, read, read_all, tokens, words
 
 
 # ---- imports
@@ -70,7 +69,7 @@ def documented() -> Set[str]:
         if os.path.exists(path):
             with open(path, encoding="utf-8") as f:
                 for quoted in re.findall(r"`([^`]+)`", f.read()):
-                    found |= words(tokens(quoted))
+                    found.update(re.findall(r"[^\s:.,{}()!]+", quoted))  # crate:File.{one, other} names both
     return found
 
 

@@ -12,43 +12,44 @@ use Rattle.frame.specs.Heading.{reserved, headingBytes}
 use Rattle.frame.specs.OnAir.{streamOf}
 use Rattle.air.specs.declared.Aired.{Aired}
 
--- how many frames P bytes take: the least N with 4N no less than P + 2
+-- how many frames P bytes take: the least N with 4N no less than P + 2 (01, on-air writer)
 unfoldable pub framesFor : ℕ → ℕ
 framesFor p = (p + 5) / 4
 
--- the packet, then its check, high byte first
+-- the packet, then its check, high byte first (01, on-air writer)
 unfoldable pub checked : List ℕ → List ℕ
 checked packet = packet ++ (crc16 packet / 2 ^ 8 ∷ crc16 packet % 2 ^ 8 ∷ [])
 
--- byte i of what the frames carry: past the check it is fill, all ones
+-- byte i of what the frames carry: past the check it is fill, all ones (01, on-air writer)
 unfoldable pub carried : List ℕ → ℕ → ℕ
 carried packet i = getD (checked packet) i 0xFF
 
--- the frame of a heading: its four bytes, then the four that its number names
+-- the frame of a heading: its four bytes, then the four that its number names (01, on-air writer)
 unfoldable pub frameOf : List ℕ → Heading → List ℕ
 frameOf packet h =
     headingBytes h
     ++ (carried packet (4 * h .number .0) ∷ carried packet (4 * h .number .0 + 1) ∷ carried packet (4 * h .number .0 + 2) ∷ carried packet (4 * h .number .0 + 3) ∷ [])
 
+-- the heading of a frame by its four numbers (000, table 22)
 abbrev pub headingFor : ℕ → ℕ → ℕ → ℕ → Heading
 headingFor level version total number =
     record { level = level; version = version; total = record { 0 = total }; number = record { 0 = number } }
 
--- n frames from number k on
+-- n frames from number k on (01, on-air writer)
 unfoldable pub framesFrom : List ℕ → ℕ → ℕ → ℕ → ℕ → List (List ℕ)
 framesFrom packet level version k zero = []
 framesFrom packet level version k (suc n) =
     frameOf packet (headingFor level version (framesFor (length packet)) k) ∷ framesFrom packet level version (k + 1) n
 
--- all frames of a packet
+-- all frames of a packet (01, on-air writer)
 unfoldable pub framesOf : List ℕ → ℕ → ℕ → List (List ℕ)
 framesOf packet level version = framesFrom packet level version 0 (framesFor (length packet))
 
--- a packet of 2 to 250 bytes whose length field, eleven bits behind five, counts all but its first two bytes
+-- a packet of 2 to 250 bytes whose length field, eleven bits behind five, counts all but its first two bytes (01, on-air writer)
 unfoldable pub sized : List ℕ → Bool
 sized packet = leb 2 (length packet) && (leb (length packet) 250 && eqb (length packet) (at (bits packet) 5 11 + 2))
 
--- 20, 13, 27, 10, in this order
+-- 20, 13, 27, 10, in this order (01, on-air writer)
 unfoldable pub cases : List ℕ → ℕ → ℕ → List ℕ → List Case
 cases packet level version out =
     (not (sized packet), 20)
@@ -57,10 +58,11 @@ cases packet level version out =
     ∷ (ltb (length out) (13 * framesFor (length packet)), 10)
     ∷ []
 
+-- the number given back (01, Numbers given back)
 unfoldable pub answerOf : List ℕ → ℕ → ℕ → List ℕ → ℕ
 answerOf packet level version out = first (cases packet level version out)
 
--- the count of frames beside 0, and 0 beside a refusal
+-- the count of frames beside 0, and 0 beside a refusal (01, on-air writer)
 unfoldable pub airedOf : List ℕ → ℕ → ℕ → List ℕ → Aired
 airedOf packet level version out =
     record {
@@ -68,7 +70,7 @@ airedOf packet level version out =
       frames = cond (eqb (answerOf packet level version out) 0) (framesFor (length packet)) 0;
     }
 
--- the frames' bytes from the output's first, the rest as it was; a refusal writes nothing
+-- the frames' bytes from the output's first, the rest as it was; a refusal writes nothing (01, on-air writer)
 unfoldable pub outputOf : List ℕ → ℕ → ℕ → List ℕ → List ℕ
 outputOf packet level version out =
     cond (eqb (answerOf packet level version out) 0)

@@ -1,1 +1,4 @@
-pub mod Laws
+pub mod Joined
+pub mod OnePlace
+pub mod AllPlaces
+pub mod Calls

@@ -12,50 +12,53 @@ use Rattle.collector.specs.declared.Piece.{Piece}
 use Rattle.collector.specs.declared.Copied.{Copied}
 use Rattle.collector.specs.Whole.{packetSize, passes}
 
--- a place that was never taken
+-- a place that was never taken (01, Collector)
 abbrev pub free : Place
 free = record { held = false; level = 0; version = 0; total = record { 0 = 0 }; marks = replicate 63 false; bytes = replicate 252 0 }
 
--- what stands for the place of a pair that no place is held for
+-- what stands for the place of a pair that no place is held for (01, Collector)
 abbrev pub blank : Place
 blank = record { held = false; level = 0; version = 0; total = record { 0 = 0 }; marks = []; bytes = [] }
 
--- held for this level and version
+-- held for this level and version (01, Collector)
 abbrev pub isPair : ℕ → ℕ → Place → Bool
 isPair l v p = p .held && (eqb (p .level) l && eqb (p .version) v)
 
--- both are held, for one pair
+-- both are held, for one pair (01, Collector)
 abbrev pub samePair : Place → Place → Bool
 samePair p q = p .held && isPair (p .level) (p .version) q
 
+-- not both held for one pair (01, Numbers given back, 28)
 abbrev pub apart : Place → Place → Bool
 apart p q = not (samePair p q)
 
 -- ---- marks: all that is said of them goes through these two, save that none stands where nothing may
 
--- the number is held
+-- the number is held (01, Collector)
 abbrev pub marked : Place → Number → Bool
 marked p n = getD (p .marks) (n .0) false
 
--- the marks with one more
+-- the marks with one more (01, Collector)
 abbrev pub withMark : List Bool → Number → List Bool
 withMark ms n = set ms (n .0) true
 
+-- a mark that is set, as the scan over marks asks it (01, Collector)
 abbrev pub isSet : Bool → Bool
 isSet b = b
 
+-- one that is not (01, Collector)
 abbrev pub isClear : Bool → Bool
 isClear b = not b
 
--- no mark stands at a number that is not below the total
+-- no mark stands at a number that is not below the total (01, Collector)
 unfoldable pub marksBelow : Place → Bool
 marksBelow p = all isClear (drop (p .total .0) (p .marks))
 
--- all numbers below the total are held
+-- all numbers below the total are held (01, Collector)
 unfoldable pub complete : Place → Bool
 complete p = all isSet (take (p .total .0) (p .marks))
 
--- 28 asks this of a held place: level, version and total in range, no mark at a number not below the total
+-- 28 asks this of a held place: level, version and total in range, no mark at a number not below the total (01, Numbers given back)
 unfoldable pub fair : Place → Bool
 fair p =
     not (p .held)
@@ -64,11 +67,11 @@ fair p =
 
 -- ---- a frame against a place of its pair
 
--- the number of an accepted frame is one that a place has room for
+-- the number of an accepted frame is one that a place has room for (01, Collector)
 abbrev pub Small : Piece → Type 0
 Small x = x .heading .number .0 < 63
 
--- the four bytes at the frame's number are the frame's
+-- the four bytes at the frame's number are the frame's (01, Collector)
 abbrev pub sameFour : Place → Piece → Bool
 sameFour p x =
     eqb (getD (p .bytes) (x .heading .number .0 * 4) 0) (x .a)
@@ -76,21 +79,22 @@ sameFour p x =
     && (eqb (getD (p .bytes) (x .heading .number .0 * 4 + 2) 0) (x .c)
     && eqb (getD (p .bytes) (x .heading .number .0 * 4 + 3) 0) (x .d)))
 
--- 15: another total, or the same number with other bytes
+-- 15: another total, or the same number with other bytes (01, Numbers given back)
 unfoldable pub contradicts : Place → Piece → Bool
 contradicts p x =
     not (eqb (p .total .0) (x .heading .total .0)) || (marked p (x .heading .number) && not (sameFour p x))
 
--- 2: the same frame is held already
+-- 2: the same frame is held already (01, Numbers given back)
 unfoldable pub again : Place → Piece → Bool
 again p x = marked p (x .heading .number) && sameFour p x
 
+-- 15 or 2 by what the place holds, else 0 (01, Numbers given back)
 unfoldable pub against : Place → Piece → ℕ
 against p x = first ((contradicts p x, 15) ∷ (again p x, 2) ∷ [])
 
 -- ---- a place changes
 
--- a place is taken: zeroed, no mark
+-- a place is taken: zeroed, no mark (01, Collector)
 unfoldable pub taken : Piece → Place
 taken x =
     record {
@@ -102,7 +106,7 @@ taken x =
       bytes = replicate 252 0;
     }
 
--- a frame is kept: its mark, and its four bytes at four times its number
+-- a frame is kept: its mark, and its four bytes at four times its number (01, Collector)
 unfoldable pub stored : Place → Piece → Place
 stored p x =
     record {
@@ -121,34 +125,39 @@ stored p x =
           (x .d);
     }
 
--- a place is released: free, bytes and marks as they were
+-- a place is released: free, bytes and marks as they were (01, Collector)
 unfoldable pub freed : Place → Place
 freed p =
     record { held = false; level = p .level; version = p .version; total = p .total; marks = p .marks; bytes = p .bytes }
 
 -- ---- whole or spoiled, from the marks and bytes alone
 
--- the 4N bytes joined
+-- the 4N bytes joined (01, Collector)
 abbrev pub joined : Place → List ℕ
 joined p = take (p .total .0 * 4) (p .bytes)
 
+-- all numbers held, and the joined bytes pass (01, Collector)
 unfoldable pub whole : Place → Bool
 whole p = complete p && passes (joined p)
 
+-- all numbers held, and they do not pass (01, Collector)
 unfoldable pub spoiled : Place → Bool
 spoiled p = complete p && not (passes (joined p))
 
--- 17, 1, or 0 where some number is missing
+-- 17, 1, or 0 where some number is missing (01, Numbers given back)
 unfoldable pub state : Place → ℕ
 state p = first ((spoiled p, 17) ∷ (whole p, 1) ∷ [])
 
 -- ---- copy from a place: 18, 10, else 0, the packet's size and its bytes at the start of what is lent
 
+-- 18 where no whole packet is held, 10 where it does not fit (01, Numbers given back)
 unfoldable pub copyCases : Place → ℕ → List Case
 copyCases p n = (not (p .held && whole p), 18) ∷ (ltb n (packetSize (joined p)), 10) ∷ []
 
+-- the number, and P beside 0 (01, Numbers given back)
 unfoldable pub copyAnswer : ℕ → Place → Copied
 copyAnswer a p = record { answer = a; length = cond (eqb a 0) (packetSize (joined p)) 0 }
 
+-- the P bytes at the start beside 0, else all as it was (01, Collector)
 unfoldable pub copyBytes : ℕ → Place → List ℕ → List ℕ
 copyBytes a p out = cond (eqb a 0) (take (packetSize (joined p)) (joined p) ++ drop (packetSize (joined p)) out) out

@@ -13,24 +13,26 @@ use Rattle.crc.specs.Crc16.{crc16}
 abbrev pub lengthField : List ℕ → ℕ
 lengthField b = at (bits b) 5 11
 
--- P
+-- P (01, Collector)
 unfoldable pub packetSize : List ℕ → ℕ
 packetSize b = lengthField b + 2
 
--- 4N − P − 2 is 0 to 3
+-- 4N − P − 2 is 0 to 3 (01, Collector)
 unfoldable pub sized : List ℕ → Bool
 sized b = leb (packetSize b + 2) (length b) && leb (length b) (packetSize b + 5)
 
--- bytes P and P + 1, high byte first, are the check of the P packet bytes only
+-- bytes P and P + 1, high byte first, are the check of the P packet bytes only (01, Collector)
 unfoldable pub checked : List ℕ → Bool
 checked b = eqb (crc16 (take (packetSize b) b)) (getD b (packetSize b) 0 * 256 + getD b (packetSize b + 1) 0)
 
+-- a byte of the fill (01, Collector)
 abbrev pub isFill : ℕ → Bool
 isFill x = eqb x 0xFF
 
--- the rest is 0xFF
+-- the rest is 0xFF (01, Collector)
 unfoldable pub filled : List ℕ → Bool
 filled b = all isFill (drop (packetSize b + 2) b)
 
+-- size, check and fill are right (01, Collector)
 unfoldable pub passes : List ℕ → Bool
 passes b = sized b && (checked b && filled b)

@@ -10,19 +10,19 @@ use Rattle.frame.specs.declared.Heading.{Heading}
 use Rattle.frame.specs.Heading.{fixed, reserved, outside, refusals, fieldsOf, noHeading, headingOf, headingBits, headingWords, headingBytes}
 use Rattle.frame.specs.OnAir.{blockBits, frameBits, airBytes}
 
--- level 5, version 3, total 20, number 17
-abbrev pub pier : ℕ → Heading
-pier n = record { level = 5; version = 3; total = record { 0 = 20 }; number = record { 0 = n } }
+-- level 5, version 3, total 20 (01, Pier examples)
+abbrev pub numbered : ℕ → Heading
+numbered n = record { level = 5; version = 3; total = record { 0 = 20 }; number = record { 0 = n } }
 
-pub pier-words : headingWords (pier 17) ≡ (0xA351, 0xB001)
+pub pier-words : headingWords (numbered 17) ≡ (0xA351, 0xB001)
 unfolding headingWords headingBits at bitsOf
 pier-words = refl
 
-pub pier-bytes : headingBytes (pier 17) ≡ 0xA3 ∷ 0x51 ∷ 0xB0 ∷ 0x01 ∷ []
+pub pier-bytes : headingBytes (numbered 17) ≡ 0xA3 ∷ 0x51 ∷ 0xB0 ∷ 0x01 ∷ []
 unfolding headingBytes headingBits at bitsOf run
 pier-bytes = refl
 
-pub pier-taken : headingOf (0xA3 ∷ 0x51 ∷ 0xB0 ∷ 0x01 ∷ 1 ∷ 2 ∷ 3 ∷ 4 ∷ []) ≡ record { answer = 0; heading = pier 17 }
+pub pier-taken : headingOf (0xA3 ∷ 0x51 ∷ 0xB0 ∷ 0x01 ∷ 1 ∷ 2 ∷ 3 ∷ 4 ∷ []) ≡ record { answer = 0; heading = numbered 17 }
 unfolding headingOf refusals fieldsOf fixed reserved outside first at bitsOf spread
 pier-taken = refl
 

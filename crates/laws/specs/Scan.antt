@@ -1,4 +1,4 @@
--- A test of every element of a list, and the place of the first element that passes a test.
+-- A test of every element of a list, and the place of the first element that passes a test. No rule of a paper stands here.
 use mathlib.Core.List.{List, [], _∷_}
 use mathlib.Core.Bool.{Bool, true, cond, _&&_}
 use Prim.Native.Nat.{ℕ, _+_}

@@ -20,10 +20,11 @@ use Rattle.collector.specs.declared.Copied.{Copied}
 use Rattle.collector.specs.Whole.{packetSize, passes}
 use Rattle.collector.specs.Places.{blank, isPair, complete, joined, whole, copyCases, copyAnswer, copyBytes}
 use Rattle.collector.specs.Collector.{indexOfPair, placeOf, answered, copied}
-use Rattle.collector.proofs.Laws.{good-at, total-small, is-not-held, copy-none, copy-held}
-use Rattle.order.specs.Held.{fourAt, lookup, holdsIn, totalIn, holds, totalHeld}
+use Rattle.collector.proofs.Calls.{copy-none, copy-held}
+use Rattle.collector.proofs.AllPlaces.{good-at, total-small, is-not-held}
+use Rattle.order.specs.Held.{fourAt, heldPlace, holdsIn, totalIn, holds, totalHeld}
 use Rattle.order.specs.Given.{full, joinedBy}
-use Rattle.order.proofs.Lookup.{lookup-found, lookup-missing}
+use Rattle.order.proofs.HeldPlace.{held-place-found, held-place-missing}
 use Rattle.order.proofs.Keeping.{shaped, Good}
 use Rattle.order.proofs.Declaring.{full-alike, joined-alike, complete-full, joined-full}
 use Rattle.order.proofs.Running.{some-inj, none-some}
@@ -99,30 +100,30 @@ module _ (c : Collector) (g : Good c) (l v : ℕ) where
   abbrev at : ℕ
   at = indexOf (isPair l v) (c .places)
 
-  by-place : (out : List ℕ) → (answered c l v (length out) ≡ answerOf (lookup l v (c .places)) (length out)) × (copied c l v out ≡ copiedOf (lookup l v (c .places)) out)
+  by-place : (out : List ℕ) → (answered c l v (length out) ≡ answerOf (heldPlace l v (c .places)) (length out)) × (copied c l v out ≡ copiedOf (heldPlace l v (c .places)) out)
   unfolding indexOfPair
   by-place out =
       by-test (ltb at (length (c .places)))
       (λ t.
-      let w = lookup-found l v (c .places) (ltb-true _ _ t) in
+      let w = held-place-found l v (c .places) (ltb-true _ _ t) in
       let k = copy-held c l v out (g .order) (placeOf l v (c .places)) refl in (
         sym (k .0) ∙ sym (ap (λ (o : Option Place). answerOf o (length out)) w),
         sym (k .1) ∙ sym (ap (λ (o : Option Place). copiedOf o out) w),
       ))
       (λ t.
       let h = ltb-false _ _ t in
-      let w = lookup-missing l v (c .places) h in
+      let w = held-place-missing l v (c .places) h in
       let k = copy-none c l v out (g .order) (is-not-held (c .places) l v h) in (
         sym (k .0) ∙ sym (ap (λ (o : Option Place). answerOf o (length out)) w),
         sym (k .1) ∙ sym (ap (λ (o : Option Place). copiedOf o out) w),
       ))
 
-  pub place-sound : (p : Place) → lookup l v (c .places) ≡ some p → Sound p
+  pub place-sound : (p : Place) → heldPlace l v (c .places) ≡ some p → Sound p
   place-sound p e =
       by-test (ltb at (length (c .places)))
       (λ t.
       let h = ltb-true _ _ t in
-      let q : getD (c .places) at blank ≡ p = some-inj (sym (lookup-found l v (c .places) h) ∙ e) in
+      let q : getD (c .places) at blank ≡ p = some-inj (sym (held-place-found l v (c .places) h) ∙ e) in
       let held : getD (c .places) at blank .held ≡ true = and-left (getD (c .places) at blank .held) _ (index-holds (isPair l v) (c .places) blank at refl h) in
       subst Sound q
       (record {
@@ -130,7 +131,7 @@ module _ (c : Collector) (g : Good c) (l v : ℕ) where
         shape = all-at shaped (c .places) at blank (g .shape) h;
         total = total-small (getD (c .places) at blank) (good-at (c .places) at blank h (g .order)) held;
       }))
-      (λ t. absurd (none-some (sym (lookup-missing l v (c .places) (ltb-false _ _ t)) ∙ e)))
+      (λ t. absurd (none-some (sym (held-place-missing l v (c .places) (ltb-false _ _ t)) ∙ e)))
 
 pub same-copies : (c d : Collector) → Good c → Good d → (l v : ℕ) → ((n : Number) → holds c l v n ≡ holds d l v n) → totalHeld c l v ≡ totalHeld d l v
     → (out : List ℕ) → (answered c l v (length out) ≡ answered d l v (length out)) × (copied c l v out ≡ copied d l v out)
@@ -138,7 +139,7 @@ unfolding holds totalHeld
 same-copies c d gc gd l v eh et out =
     let pc = by-place c gc l v out in
     let pd = by-place d gd l v out in
-    let w = alike (lookup l v (c .places)) (lookup l v (d .places)) (place-sound c gc l v) (place-sound d gd l v) et eh in
+    let w = alike (heldPlace l v (c .places)) (heldPlace l v (d .places)) (place-sound c gc l v) (place-sound d gd l v) et eh in
     (pc .0 ∙ w .0 ∙ sym (pd .0), pc .1 ∙ w .1 ∙ sym (pd .1))
   where
     alike : (o u : Option Place) → ((p : Place) → o ≡ some p → Sound p) → ((p : Place) → u ≡ some p → Sound p) → totalIn o ≡ totalIn u → ((n : Number) → holdsIn o n ≡ holdsIn u n)

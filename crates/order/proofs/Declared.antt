@@ -21,10 +21,10 @@ use Rattle.collector.specs.declared.Offered.{Offered}
 use Rattle.collector.specs.Whole.{passes}
 use Rattle.collector.specs.Collector.{nothing, pieceOf, takenIn, offered}
 use Rattle.order.specs.Held.{Four, offerAll, declares, declarations}
-use Rattle.order.specs.Given.{pieces, four, ofPair, ofKey, came, Pair, Bounded, firstOf, given, totalGiven, isSome, full, joinedBy, declareCases, givenWith, dueCases, completeBy, completed}
+use Rattle.order.specs.Given.{pieces, four, ofPair, ofNumber, came, Pair, Bounded, firstOf, given, totalGiven, isSome, full, joinedBy, declareCases, givenWith, dueCases, completeBy, completed}
 use Rattle.order.proofs.Keeping.{empty-good}
 use Rattle.order.proofs.Declaring.{full-alike}
-use Rattle.order.proofs.Running.{Clear, Feed, orElse, some-inj, none-some, found-append, came-given, key-parts, mem-left, mem-right, answer-due}
+use Rattle.order.proofs.Running.{Clear, Feed, orElse, some-inj, none-some, found-append, came-given, number-parts, mem-left, mem-right, answer-due}
 use Rattle.order.proofs.Offering.{offered-taken, offered-refused, all-good, all-taken, pieces-yes, pieces-no, pieces-append, refused-some, feed, bounded-among, offer-on}
 use Rattle.laws.proofs.Below.{below-no}
 
@@ -120,7 +120,7 @@ module _ (qs : List Pair) (ps : List Piece) (x : Piece) (fd : Feed qs (ps ++ (x 
   other-pair i j e =
       complete-alike _ _ (given (ps ++ (x ∷ [])) i j) (given ps i j)
       (skipped (ofPair i j) (λ y. y .heading .total) ps x e)
-      (λ n. skipped (ofKey i j n) four ps x (and-no _ e))
+      (λ n. skipped (ofNumber i j n) four ps x (and-no _ e))
 
   -- a frame that came before completes nothing
   again-same : came ps x ≡ true → completed (ps ++ (x ∷ [])) l v ≡ completed ps l v
@@ -129,11 +129,11 @@ module _ (qs : List Pair) (ps : List Piece) (x : Piece) (fd : Feed qs (ps ++ (x 
       complete-alike _ _ (given (ps ++ (x ∷ [])) l v) (given ps l v)
       (stays (ofPair l v) (λ y. y .heading .total) ps x (total-too ps l v (x .heading .number) here))
       (λ n.
-      by-test (ofKey l v n x)
+      by-test (ofNumber l v n x)
       (λ k.
-      let q : x .heading .number .0 ≡ n .0 = key-parts l v n x k .2 in
-      stays (ofKey l v n) four ps x (ap (λ (i : ℕ). isSome (given ps l v (record { 0 = i }))) (sym q) ∙ here))
-      (λ k. skipped (ofKey l v n) four ps x k))
+      let q : x .heading .number .0 ≡ n .0 = number-parts l v n x k .2 in
+      stays (ofNumber l v n) four ps x (ap (λ (i : ℕ). isSome (given ps l v (record { 0 = i }))) (sym q) ∙ here))
+      (λ k. skipped (ofNumber l v n) four ps x k))
 
   -- a number that comes for the first time was missing
   was-incomplete : came ps x ≡ false → completed ps l v ≡ false

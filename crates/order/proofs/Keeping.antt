@@ -21,7 +21,8 @@ use Rattle.collector.specs.declared.Piece.{Piece}
 use Rattle.collector.specs.declared.Offered.{Offered}
 use Rattle.collector.specs.Places.{blank, isPair, apart, isClear, marksBelow, fair, stored, taken, freed}
 use Rattle.collector.specs.Collector.{good, nothing, indexOfPair, itsPlace, pieceOf, put, takenIn, kept, offered, released}
-use Rattle.collector.proofs.Laws.{good-at, is-held, is-not-held, offer-heading, offer-taken, release-18, release-0}
+use Rattle.collector.proofs.Calls.{offer-heading, offer-taken, release-18, release-0}
+use Rattle.collector.proofs.AllPlaces.{good-at, is-held, is-not-held}
 use Rattle.order.proofs.Outcome.{Outcome, turned, joins, starts, finds-none, outcome, atPair, atFree, total-agrees}
 
 -- a place has the lengths that its arrays have
@@ -168,9 +169,9 @@ taken-total : (x : Piece) → taken x .total .0 ≡ x .heading .total .0
 unfolding taken
 taken-total x = refl
 
-stored-key : (p : Place) (x : Piece) → (stored p x .level ≡ p .level) × (stored p x .version ≡ p .version)
+stored-number : (p : Place) (x : Piece) → (stored p x .level ≡ p .level) × (stored p x .version ≡ p .version)
 unfolding stored
-stored-key p x = (refl, refl)
+stored-number p x = (refl, refl)
 
 pub kept-collector : (c : Collector) (i : ℕ) (p : Place) (x : Piece) → kept c i p x .collector ≡ put c i (stored p x)
 unfolding kept
@@ -198,7 +199,7 @@ module _ (c : Collector) (x : Piece) (g : Good c) (b : Bounds (x .heading)) wher
       let q = stored (taken x) x in
       let n = b .number-below in
       let fp = taken-pair x in
-      let sk = stored-key (taken x) x in
+      let sk = stored-number (taken x) x in
       record {
         count = length-set (c .places) (atFree c) q ∙ g .count;
         shape = all-set shaped (c .places) (atFree c) q (g .shape) (stored-shaped (taken x) x ∙ taken-shaped x);

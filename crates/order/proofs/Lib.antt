@@ -1,4 +1,4 @@
-pub mod Lookup
+pub mod HeldPlace
 pub mod Outcome
 pub mod Keeping
 pub mod Stepping

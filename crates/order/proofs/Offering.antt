@@ -15,7 +15,7 @@ use Rattle.collector.specs.declared.Collector.{Collector}
 use Rattle.collector.specs.declared.Piece.{Piece}
 use Rattle.collector.specs.declared.Offered.{Offered}
 use Rattle.collector.specs.Collector.{pieceOf, takenIn, offered}
-use Rattle.collector.proofs.Laws.{offer-heading, offer-taken}
+use Rattle.collector.proofs.Calls.{offer-heading, offer-taken}
 use Rattle.order.specs.Held.{offerAll, takeAll}
 use Rattle.order.specs.Given.{pieces, four, ofPair, sameBytes, contradict, Pair, among, Bounded, Rearranged, none-left, one-kept, two-swapped, and-then}
 use Rattle.order.proofs.Keeping.{Good, offer-good}

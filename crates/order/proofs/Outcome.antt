@@ -11,7 +11,8 @@ use Rattle.collector.specs.declared.Collector.{Collector}
 use Rattle.collector.specs.declared.Piece.{Piece}
 use Rattle.collector.specs.Places.{isPair, against, taken}
 use Rattle.collector.specs.Collector.{isFree, indexOfPair, indexOfFree, itsPlace, takenIn, kept}
-use Rattle.collector.proofs.Laws.{all-held, some-free, is-held, is-not-held, take-held, take-against, take-free, take-full, other-total}
+use Rattle.collector.proofs.AllPlaces.{all-held, some-free, is-held, is-not-held, take-held, take-against, take-free, take-full}
+use Rattle.collector.proofs.OnePlace.{other-total}
 
 -- where the frame's pair is held, and the first free place
 abbrev pub atPair : Collector → Piece → ℕ

@@ -18,7 +18,7 @@ use Rattle.frame.proofs.Alike.{made, remade}
 use Rattle.collector.specs.declared.Piece.{Piece}
 use Rattle.collector.specs.Collector.{nothing, pieceOf, offered}
 use Rattle.order.specs.Held.{offerAll}
-use Rattle.order.specs.Given.{pieces, ofPair, ofKey, sameBytes, same, came, Pair, Bounded, declareCases, givenWith, dueCases, due}
+use Rattle.order.specs.Given.{pieces, ofPair, ofNumber, sameBytes, same, came, Pair, Bounded, declareCases, givenWith, dueCases, due}
 use Rattle.order.proofs.Running.{mem-left, mem-right}
 use Rattle.order.proofs.Offering.{accepted-none, refused-some, pieces-of, of-pieces}
 use Rattle.order.proofs.Theorems.{answers}
@@ -34,9 +34,9 @@ module _ (f g : List ℕ) (bf : Bytes f) (bg : Bytes g) (af : accepted f ≡ tru
   same-frames s =
       let x = pieceOf f in
       let y = pieceOf g in
-      let k = and-left (ofKey (y .heading .level) (y .heading .version) (y .heading .number) x) _ s in
+      let k = and-left (ofNumber (y .heading .level) (y .heading .version) (y .heading .number) x) _ s in
       let p = and-left (ofPair (y .heading .level) (y .heading .version) x) (eqb (x .heading .number .0) (y .heading .number .0)) k in
-      let r = and-right (ofKey (y .heading .level) (y .heading .version) (y .heading .number) x) _ s in
+      let r = and-right (ofNumber (y .heading .level) (y .heading .version) (y .heading .number) x) _ s in
       let b = and-right (eqb (x .heading .total .0) (y .heading .total .0)) (sameBytes x y) r in
       let b₁ = and-right (eqb (x .a) (y .a)) _ b in
       let b₂ = and-right (eqb (x .b) (y .b)) _ b₁ in

@@ -20,8 +20,8 @@ use Rattle.frame.proofs.Accepted.{Bounds}
 use Rattle.collector.specs.declared.Collector.{Collector}
 use Rattle.collector.specs.declared.Piece.{Piece}
 use Rattle.collector.specs.Collector.{nothing, takenIn}
-use Rattle.order.specs.Held.{Four, lookup, holds, totalHeld, takeAll}
-use Rattle.order.specs.Given.{four, ofPair, ofKey, same, came, Pair, among, firstOf, given, totalGiven, isSome, givenWith, declareCases, dueCases}
+use Rattle.order.specs.Held.{Four, heldPlace, holds, totalHeld, takeAll}
+use Rattle.order.specs.Given.{four, ofPair, ofNumber, same, came, Pair, among, firstOf, given, totalGiven, isSome, givenWith, declareCases, dueCases}
 use Rattle.order.proofs.Keeping.{Good, empty-good}
 use Rattle.order.proofs.Stepping.{Stepped, Agrees}
 use Rattle.order.proofs.Room.{Within}
@@ -37,7 +37,7 @@ none-some e = let z : _≡_ {A = ℕ} 0 1 = cc in omega arith
 -- two frames that do not contradict: of one pair, one total; of one number too, the same four bytes
 pub record Clear (x y : Piece) : Type 0 where
   pub total : ofPair (y .heading .level) (y .heading .version) x ≡ true → x .heading .total ≡ y .heading .total
-  pub bytes : ofKey (y .heading .level) (y .heading .version) (y .heading .number) x ≡ true → four x ≡ four y
+  pub bytes : ofNumber (y .heading .level) (y .heading .version) (y .heading .number) x ≡ true → four x ≡ four y
 
 -- what agrees with a collector and with the frame agrees with the collector after the frame
 agrees-on : (c c′ : Collector) (x y : Piece) → Stepped c x c′ → Clear x y → Agrees c y → Agrees c′ y
@@ -51,7 +51,7 @@ agrees-on c c′ x y s k a = record { total = on-total; bytes = on-bytes }
 
     on-bytes : (b : Four) → holds c′ (y .heading .level) (y .heading .version) (y .heading .number) ≡ some b → b ≡ four y
     on-bytes b e =
-        by-test (ofKey (y .heading .level) (y .heading .version) (y .heading .number) x)
+        by-test (ofNumber (y .heading .level) (y .heading .version) (y .heading .number) x)
         (λ p. some-inj (sym e ∙ s .held (y .heading .level) (y .heading .version) (y .heading .number) ∙ if-yes _ _ p) ∙ k .bytes p)
         (λ p. a .bytes b (sym (s .held (y .heading .level) (y .heading .version) (y .heading .number) ∙ if-no _ _ p) ∙ e))
 
@@ -142,17 +142,17 @@ module _ {B : Type 0} (look : Collector → Option B) (is : Piece → Bool) (val
       ∙ sym (found-append is val ps (x ∷ []))
 
 -- ---- what is held, and totals
-pub key-parts : (l v : ℕ) (m : Number) (x : Piece) → ofKey l v m x ≡ true → (x .heading .level ≡ l) × (x .heading .version ≡ v) × (x .heading .number .0 ≡ m .0)
-key-parts l v m x e =
+pub number-parts : (l v : ℕ) (m : Number) (x : Piece) → ofNumber l v m x ≡ true → (x .heading .level ≡ l) × (x .heading .version ≡ v) × (x .heading .number .0 ≡ m .0)
+number-parts l v m x e =
     let pr = and-left (ofPair l v x) (eqb (x .heading .number .0) (m .0)) e in (
       eqb-true _ _ (and-left (eqb (x .heading .level) l) (eqb (x .heading .version) v) pr),
       eqb-true _ _ (and-right (eqb (x .heading .level) l) (eqb (x .heading .version) v) pr),
       eqb-true _ _ (and-right (ofPair l v x) (eqb (x .heading .number .0) (m .0)) e),
     )
 
-holds-agreed : (l v : ℕ) (m : Number) (c : Collector) (x : Piece) → Agrees c x → ofKey l v m x ≡ true → (b : Four) → holds c l v m ≡ some b → b ≡ four x
+holds-agreed : (l v : ℕ) (m : Number) (c : Collector) (x : Piece) → Agrees c x → ofNumber l v m x ≡ true → (b : Four) → holds c l v m ≡ some b → b ≡ four x
 holds-agreed l v m c x a k b e =
-    let p = key-parts l v m x k in
+    let p = number-parts l v m x k in
     a .bytes b (ap₂ (λ (i j : ℕ). holds c i j (x .heading .number)) (p .0) (p .1) ∙ ap (λ (n : ℕ). holds c l v (record { 0 = n })) (p .2) ∙ e)
 
 total-agreed : (l v : ℕ) (c : Collector) (x : Piece) → Agrees c x → ofPair l v x ≡ true → (t : Total) → totalHeld c l v ≡ some t → t ≡ x .heading .total
@@ -162,11 +162,11 @@ total-agreed l v c x a k t e =
     a .total t (ap₂ (totalHeld c) el ev ∙ e)
 
 empty-holds : (l v : ℕ) (m : Number) → holds nothing l v m ≡ none
-unfolding holds lookup
+unfolding holds heldPlace
 empty-holds l v m = refl
 
 empty-total : (l v : ℕ) → totalHeld nothing l v ≡ none
-unfolding totalHeld lookup
+unfolding totalHeld heldPlace
 empty-total l v = refl
 
 empty-within : (qs : List Pair) → Within qs nothing
@@ -199,7 +199,7 @@ feed-ready qs ps f =
 module _ (qs : List Pair) (ps : List Piece) (f : Feed qs ps) where
   pub held-given : (l v : ℕ) (n : Number) → holds (takeAll nothing ps) l v n ≡ given ps l v n
   held-given l v n =
-      looked (λ c. holds c l v n) (ofKey l v n) four (λ c x c′ s. s .held l v n) (holds-agreed l v n) qs ps nothing (feed-ready qs ps f)
+      looked (λ c. holds c l v n) (ofNumber l v n) four (λ c x c′ s. s .held l v n) (holds-agreed l v n) qs ps nothing (feed-ready qs ps f)
       ∙ ap (λ (o : Option Four). orElse o (given ps l v n)) (empty-holds l v n)
 
   pub total-given : (l v : ℕ) → totalHeld (takeAll nothing ps) l v ≡ totalGiven ps l v
@@ -209,10 +209,10 @@ module _ (qs : List Pair) (ps : List Piece) (f : Feed qs ps) where
 
 -- ---- the answer
 -- a frame of the same pair and number that does not contradict is the same frame
-same-is : (x y : Piece) → Clear x y → same x y ≡ ofKey (y .heading .level) (y .heading .version) (y .heading .number) x
+same-is : (x y : Piece) → Clear x y → same x y ≡ ofNumber (y .heading .level) (y .heading .version) (y .heading .number) x
 unfolding same
 same-is x y k =
-    by-test (ofKey (y .heading .level) (y .heading .version) (y .heading .number) x)
+    by-test (ofNumber (y .heading .level) (y .heading .version) (y .heading .number) x)
     (λ e.
     let pr = and-left (ofPair (y .heading .level) (y .heading .version) x) (eqb (x .heading .number .0) (y .heading .number .0)) e in
     let b = k .bytes e in
@@ -230,7 +230,7 @@ unfolding came firstOf
 came-given [] y k = refl
 came-given (x ∷ ps) y k =
     ap₂ _||_ (same-is x y (k x (List·Memᴰ·head refl))) (came-given ps y (λ z m. k z (List·Memᴰ·tail m)))
-    ∙ either (ofKey (y .heading .level) (y .heading .version) (y .heading .number) x) (given ps (y .heading .level) (y .heading .version) (y .heading .number))
+    ∙ either (ofNumber (y .heading .level) (y .heading .version) (y .heading .number) x) (given ps (y .heading .level) (y .heading .version) (y .heading .number))
   where
     either : (b : Bool) (o : Option Four) → (b || isSome o) ≡ isSome (cond b (some (four x)) o)
     either true o = refl
@@ -268,7 +268,7 @@ answer-due qs ps x rest f =
     let now : (m : Number) → holds (takenIn c x .collector) l v m ≡ givenWith ps x m =
     λ m.
     t .stepped .held l v m
-    ∙ looked-with (λ d. holds d l v m) (ofKey l v m) four (λ d y e s. s .held l v m) (holds-agreed l v m) qs ps c x (held-given qs ps fp l v m) ag
+    ∙ looked-with (λ d. holds d l v m) (ofNumber l v m) four (λ d y e s. s .held l v m) (holds-agreed l v m) qs ps c x (held-given qs ps fp l v m) ag
     in
     let before : isSome (holds c l v n) ≡ came ps x =
     ap isSome (held-given qs ps fp l v n)

@@ -1,5 +1,5 @@
 -- Nothing that a collector holds is lost or changed by an offer, whatever is offered. Assumes nothing.
-use mathlib.Core.Path.{_≡_, refl, sym, ap, ap₂, subst, _∙_}
+use mathlib.Core.Path.{_≡_, sym, ap, ap₂, subst, _∙_}
 use mathlib.Core.List.{List, [], _∷_}
 use mathlib.Core.Option.{Option, none, some}
 use mathlib.Core.Bool.{true, false}
@@ -18,15 +18,15 @@ use Rattle.collector.specs.declared.Collector.{Collector}
 use Rattle.collector.specs.declared.Piece.{Piece}
 use Rattle.collector.specs.declared.Offered.{Offered}
 use Rattle.collector.specs.Places.{blank, marked, sameFour, against, stored, taken}
-use Rattle.collector.specs.Collector.{indexOfPair, itsPlace, put, pieceOf, takenIn, kept, offered}
-use Rattle.collector.proofs.Laws.{same-frame, other-bytes}
+use Rattle.collector.specs.Collector.{indexOfPair, itsPlace, put, pieceOf, takenIn, offered}
+use Rattle.collector.proofs.OnePlace.{same-frame, other-bytes}
 use Rattle.order.specs.Held.{Four, fourAt, holdsIn, totalIn, holds, totalHeld, offerAll}
-use Rattle.order.specs.Given.{four, ofPair, ofKey}
+use Rattle.order.specs.Given.{ofPair, ofNumber}
 use Rattle.order.proofs.Outcome.{Outcome, turned, joins, starts, finds-none, outcome, atPair, atFree, total-agrees}
-use Rattle.order.proofs.Lookup.{lookup-found, lookup-missing}
+use Rattle.order.proofs.HeldPlace.{held-place-found, held-place-missing}
 use Rattle.order.proofs.Keeping.{shaped, Good, kept-collector, offer-good}
 use Rattle.order.proofs.Stepping.{Stepped, held-stepped, new-stepped}
-use Rattle.order.proofs.Running.{some-inj, none-some, key-parts}
+use Rattle.order.proofs.Running.{some-inj, none-some, number-parts}
 use Rattle.order.proofs.Offering.{offered-taken, offered-refused, accepted-none}
 
 -- what the one holds the other holds too: the same four bytes for a pair's number, and the same total for a pair
@@ -45,9 +45,9 @@ stepped-stays c x d s new same = record { bytes = on-bytes; total = on-total }
   where
     on-bytes : (l v : ℕ) (n : Number) (b : Four) → holds c l v n ≡ some b → holds d l v n ≡ some b
     on-bytes l v n b e =
-        by-test (ofKey l v n x)
+        by-test (ofNumber l v n x)
         (λ k.
-        let p = key-parts l v n x k in
+        let p = number-parts l v n x k in
         let here : holds c (x .heading .level) (x .heading .version) (x .heading .number) ≡ some b =
         ap₂ (λ (i j : ℕ). holds c i j (x .heading .number)) (p .0) (p .1) ∙ ap (λ (m : ℕ). holds c l v (record { 0 = m })) (p .2) ∙ e in
         absurd (none-some (sym new ∙ here)))
@@ -83,7 +83,7 @@ module _ (c : Collector) (x : Piece) (g : Good c) (b : Bounds (x .heading)) wher
       let sh : shaped p ≡ true = all-at shaped (c .places) (atPair c x) blank (g .shape) h in
       let lm : length (p .marks) ≡ 63 = eqb-true _ _ (and-left (eqb (length (p .marks)) 63) (eqb (length (p .bytes)) 252) sh) in
       let lb : length (p .bytes) ≡ 252 = eqb-true _ _ (and-right (eqb (length (p .marks)) 63) (eqb (length (p .bytes)) 252) sh) in
-      let found = lookup-found (x .heading .level) (x .heading .version) (c .places) h in
+      let found = held-place-found (x .heading .level) (x .heading .version) (c .places) h in
       stepped-stays c x (put c (atPair c x) (stored p x)) (held-stepped c x h (omega arith) (omega arith) (total-agrees c x e))
       (ap (λ (o : Option _). holdsIn o (x .heading .number)) found ∙ if-no _ none (missing e))
       (λ t k. some-inj (sym k ∙ ap totalIn found) ∙ ap (λ (m : ℕ). record { 0 = m }) (total-agrees c x e))
@@ -93,7 +93,7 @@ module _ (c : Collector) (x : Piece) (g : Good c) (b : Bounds (x .heading)) wher
   starts-stays none-held h =
       let n = b .number-below in
       let u = b .total-high in
-      let lost = lookup-missing (x .heading .level) (x .heading .version) (c .places) none-held in
+      let lost = held-place-missing (x .heading .level) (x .heading .version) (c .places) none-held in
       stepped-stays c x (put c (atFree c) (stored (taken x) x)) (new-stepped c x none-held h (omega arith))
       (ap (λ (o : Option _). holdsIn o (x .heading .number)) lost)
       (λ t k. absurd (none-some (sym (ap totalIn lost) ∙ k)))

@@ -16,23 +16,23 @@ use Rattle.collector.specs.declared.Collector.{Collector}
 use Rattle.collector.specs.declared.Piece.{Piece}
 use Rattle.collector.specs.Places.{blank, isPair, stored, taken}
 use Rattle.collector.specs.Collector.{isFree, indexOfPair, itsPlace, put}
-use Rattle.order.specs.Held.{Four, fourAt, lookup, holdsIn, totalIn, holds, totalHeld}
-use Rattle.order.specs.Given.{four, ofPair, ofKey}
+use Rattle.order.specs.Held.{Four, fourAt, heldPlace, holdsIn, totalIn, holds, totalHeld}
+use Rattle.order.specs.Given.{four, ofPair, ofNumber}
 use Rattle.order.proofs.Outcome.{atPair, atFree}
-use Rattle.order.proofs.Lookup.{lookup-found, lookup-missing, lookup-hit, lookup-new, lookup-miss, four-other, four-own}
+use Rattle.order.proofs.HeldPlace.{held-place-found, held-place-missing, held-place-hit, held-place-new, held-place-miss, four-other, four-own}
 
 -- ---- one piece more
 -- what a collector holds after a piece: what it held, and the piece
 pub record Stepped (c : Collector) (x : Piece) (c′ : Collector) : Type 0 where
-  pub held : (l v : ℕ) (m : Number) → holds c′ l v m ≡ cond (ofKey l v m x) (some (four x)) (holds c l v m)
+  pub held : (l v : ℕ) (m : Number) → holds c′ l v m ≡ cond (ofNumber l v m x) (some (four x)) (holds c l v m)
   pub total : (l v : ℕ) → totalHeld c′ l v ≡ cond (ofPair l v x) (some (x .heading .total)) (totalHeld c l v)
 
 module _ (c : Collector) (x : Piece) (i : ℕ) (q : Place)
-    (hit : lookup (x .heading .level) (x .heading .version) (set (c .places) i q) ≡ some q)
-    (miss : (l v : ℕ) → ofPair l v x ≡ false → lookup l v (set (c .places) i q) ≡ lookup l v (c .places))
+    (hit : heldPlace (x .heading .level) (x .heading .version) (set (c .places) i q) ≡ some q)
+    (miss : (l v : ℕ) → ofPair l v x ≡ false → heldPlace l v (set (c .places) i q) ≡ heldPlace l v (c .places))
     (same : q .total ≡ x .heading .total)
     (fours : (m : Number) → fourAt q m ≡ cond (eqb (x .heading .number .0) (m .0)) (some (four x)) (holds c (x .heading .level) (x .heading .version) m)) where
-  put-held : (l v : ℕ) (m : Number) → holds (put c i q) l v m ≡ cond (ofKey l v m x) (some (four x)) (holds c l v m)
+  put-held : (l v : ℕ) (m : Number) → holds (put c i q) l v m ≡ cond (ofNumber l v m x) (some (four x)) (holds c l v m)
   unfolding holds
   put-held l v m =
       by-test (ofPair l v x)
@@ -101,13 +101,13 @@ module _ (c : Collector) (x : Piece) where
   held-stepped h a b t =
       let mine : isPair (x .heading .level) (x .heading .version) (itsPlace c x) ≡ true = index-holds (isPair (x .heading .level) (x .heading .version)) (c .places) blank (atPair c x) refl h in
       put-stepped c x (atPair c x) (stored (itsPlace c x) x)
-      (lookup-hit (x .heading .level) (x .heading .version) (c .places) (atPair c x) (stored (itsPlace c x) x) refl h (stored-pair (itsPlace c x) x _ _ ∙ mine))
+      (held-place-hit (x .heading .level) (x .heading .version) (c .places) (atPair c x) (stored (itsPlace c x) x) refl h (stored-pair (itsPlace c x) x _ _ ∙ mine))
       (λ l v n.
       let k = pair-alike (itsPlace c x) x mine l v n in
-      lookup-miss l v (c .places) (atPair c x) (stored (itsPlace c x) x) h k (stored-pair (itsPlace c x) x l v ∙ k))
+      held-place-miss l v (c .places) (atPair c x) (stored (itsPlace c x) x) h k (stored-pair (itsPlace c x) x l v ∙ k))
       (stored-total (itsPlace c x) x ∙ ap (λ (k : ℕ). record { 0 = k }) t)
       (stored-fours (itsPlace c x) x (holds c (x .heading .level) (x .heading .version)) a b
-      (λ m ne. ap (λ (o : Option Place). holdsIn o m) (sym (lookup-found (x .heading .level) (x .heading .version) (c .places) h))))
+      (λ m ne. ap (λ (o : Option Place). holdsIn o m) (sym (held-place-found (x .heading .level) (x .heading .version) (c .places) h))))
 
   -- ---- the pair is not held
   new-pair : (l v : ℕ) → isPair l v (stored (taken x) x) ≡ ofPair l v x
@@ -147,11 +147,11 @@ module _ (c : Collector) (x : Piece) where
   new-stepped none-held h n =
       let open-place : (getD (c .places) (atFree c) blank) .held ≡ false = not-true _ (index-holds isFree (c .places) blank (atFree c) refl h) in
       put-stepped c x (atFree c) (stored (taken x) x)
-      (lookup-new (x .heading .level) (x .heading .version) (c .places) (atFree c) (stored (taken x) x) none-held h new-own)
-      (λ l v k. lookup-miss l v (c .places) (atFree c) (stored (taken x) x) h (and-no _ open-place) (new-pair l v ∙ k))
+      (held-place-new (x .heading .level) (x .heading .version) (c .places) (atFree c) (stored (taken x) x) none-held h new-own)
+      (λ l v k. held-place-miss l v (c .places) (atFree c) (stored (taken x) x) h (and-no _ open-place) (new-pair l v ∙ k))
       new-total
       (stored-fours (taken x) x (holds c (x .heading .level) (x .heading .version)) (omega (arith, taken-marks)) (omega (arith, taken-bytes))
-      (λ m ne. taken-none m ∙ ap (λ (o : Option Place). holdsIn o m) (sym (lookup-missing (x .heading .level) (x .heading .version) (c .places) none-held))))
+      (λ m ne. taken-none m ∙ ap (λ (o : Option Place). holdsIn o m) (sym (held-place-missing (x .heading .level) (x .heading .version) (c .places) none-held))))
 
 -- ---- what was held agrees with the piece
 pub record Agrees (c : Collector) (x : Piece) : Type 0 where
@@ -165,9 +165,9 @@ module _ (c : Collector) (x : Piece)
   pub again-stepped : Stepped c x c
   again-stepped = record { held = again-held; total = again-total }
     where
-      again-held : (l v : ℕ) (m : Number) → holds c l v m ≡ cond (ofKey l v m x) (some (four x)) (holds c l v m)
+      again-held : (l v : ℕ) (m : Number) → holds c l v m ≡ cond (ofNumber l v m x) (some (four x)) (holds c l v m)
       again-held l v m =
-          by-test (ofKey l v m x)
+          by-test (ofNumber l v m x)
           (λ e.
           let pr = and-left (ofPair l v x) (eqb (x .heading .number .0) (m .0)) e in
           let el : x .heading .level ≡ l = eqb-true _ _ (and-left (eqb (x .heading .level) l) (eqb (x .heading .version) v) pr) in

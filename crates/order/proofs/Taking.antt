@@ -21,11 +21,11 @@ use Rattle.collector.specs.declared.Piece.{Piece}
 use Rattle.collector.specs.declared.Offered.{Offered}
 use Rattle.collector.specs.Places.{blank, isPair, marked, sameFour, against, stored, taken, state}
 use Rattle.collector.specs.Collector.{isFree, indexOfPair, itsPlace, put, takenIn, kept}
-use Rattle.collector.proofs.Laws.{new-number, same-frame}
-use Rattle.order.specs.Held.{Four, bytesAt, fourAt, lookup, holdsIn, totalIn, holds, totalHeld}
+use Rattle.collector.proofs.OnePlace.{new-number, same-frame}
+use Rattle.order.specs.Held.{Four, bytesAt, fourAt, heldPlace, holdsIn, totalIn, holds, totalHeld}
 use Rattle.order.specs.Given.{four, Pair, among, isSome, declareCases}
 use Rattle.order.proofs.Outcome.{Outcome, turned, joins, starts, finds-none, outcome, atPair, atFree, total-agrees}
-use Rattle.order.proofs.Lookup.{lookup-found, lookup-missing, lookup-hit, lookup-new}
+use Rattle.order.proofs.HeldPlace.{held-place-found, held-place-missing, held-place-hit, held-place-new}
 use Rattle.order.proofs.Keeping.{shaped, Good, kept-collector, joined-good, started-good, stored-shaped, taken-shaped}
 use Rattle.order.proofs.Stepping.{Stepped, Agrees, again-stepped, held-stepped, new-stepped, stored-pair, stored-total, new-own, new-total}
 use Rattle.order.proofs.Room.{Within, okAmong, crowded, all-held-among}
@@ -60,7 +60,7 @@ unfolding Within stored taken
 new-within qs c x w m = all-set (okAmong qs) (c .places) (atFree c) (stored (taken x) x) w m
 
 -- what is held for a pair whose place was just put
-seen : (c : Collector) (l v : ℕ) (q : Place) (i : ℕ) → lookup l v (set (c .places) i q) ≡ some q → (k : Number) → holds (put c i q) l v k ≡ fourAt q k
+seen : (c : Collector) (l v : ℕ) (q : Place) (i : ℕ) → heldPlace l v (set (c .places) i q) ≡ some q → (k : Number) → holds (put c i q) l v k ≡ fourAt q k
 unfolding holds
 seen c l v q i e k = ap (λ (o : Option Place). holdsIn o k) e
 
@@ -76,11 +76,11 @@ module _ (qs : List Pair) (few : length qs ≤ 4) (c : Collector) (x : Piece) (g
   module _ (h : atPair c x < length (c .places)) where
     held-total : totalHeld c l v ≡ some (itsPlace c x .total)
     unfolding totalHeld indexOfPair
-    held-total = ap totalIn (lookup-found l v (c .places) h)
+    held-total = ap totalIn (held-place-found l v (c .places) h)
 
     held-four : (n : Number) → holds c l v n ≡ fourAt (itsPlace c x) n
     unfolding holds indexOfPair
-    held-four n = ap (λ (o : Option Place). holdsIn o n) (lookup-found l v (c .places) h)
+    held-four n = ap (λ (o : Option Place). holdsIn o n) (held-place-found l v (c .places) h)
 
     its-total : itsPlace c x .total ≡ x .heading .total
     its-total = a .total (itsPlace c x .total) held-total
@@ -128,7 +128,7 @@ module _ (qs : List Pair) (few : length qs ≤ 4) (c : Collector) (x : Piece) (g
         let missing : marked p (x .heading .number) ≡ false =
         by-test (marked p (x .heading .number)) (λ y. let z : 2 ≡ 0 = sym (was-there y .1) ∙ e in absurd (omega arith)) (λ y. y) in
         let mine : isPair l v p ≡ true = index-holds (isPair l v) (c .places) blank (atPair c x) refl h in
-        let hit = lookup-hit l v (c .places) (atPair c x) q refl h (stored-pair p x l v ∙ mine) in
+        let hit = held-place-hit l v (c .places) (atPair c x) q refl h (stored-pair p x l v ∙ mine) in
         let qt : q .total ≡ x .heading .total = stored-total p x ∙ its-total in
         record {
           good = subst Good d (joined-good c x g b h t);
@@ -157,7 +157,7 @@ module _ (qs : List Pair) (few : length qs ≤ 4) (c : Collector) (x : Piece) (g
 
     holds-none : (n : Number) → holds c l v n ≡ none
     unfolding holds
-    holds-none n = ap (λ (o : Option Place). holdsIn o n) (lookup-missing l v (c .places) none-held)
+    holds-none n = ap (λ (o : Option Place). holdsIn o n) (held-place-missing l v (c .places) none-held)
 
     starts-took : atFree c < length (c .places) → kept c (atFree c) (taken x) x ≡ takenIn c x → Took qs c x
     starts-took h o =
@@ -165,7 +165,7 @@ module _ (qs : List Pair) (few : length qs ≤ 4) (c : Collector) (x : Piece) (g
         let d : put c (atFree c) q ≡ takenIn c x .collector = sym (kept-collector c (atFree c) (taken x) x) ∙ ap (λ (r : Offered). r .collector) o in
         let n = b .number-below in
         let u = b .total-high in
-        let hit = lookup-new l v (c .places) (atFree c) q none-held h (new-own c x) in
+        let hit = held-place-new l v (c .places) (atFree c) q none-held h (new-own c x) in
         let qt : q .total ≡ x .heading .total = new-total c x in
         record {
           good = subst Good d (started-good c x g b none-held h);

@@ -26,12 +26,13 @@ use Rattle.collector.specs.declared.Piece.{Piece}
 use Rattle.collector.specs.declared.Offered.{Offered}
 use Rattle.collector.specs.Places.{blank, isPair, stored, taken, freed, copyAnswer, copyBytes}
 use Rattle.collector.specs.Collector.{nothing, good, isFree, isHeld, indexOfPair, placeOf, itsPlace, put, pieceOf, takenIn, keeps, offerCases, offered, releaseCases, released, copiedCases, answered, copied}
-use Rattle.collector.proofs.Laws.{offer-apart, release-apart, copy-apart, is-held, is-not-held, some-free, release-0}
+use Rattle.collector.proofs.Calls.{offer-apart, release-apart, copy-apart, release-0}
+use Rattle.collector.proofs.AllPlaces.{is-held, is-not-held, some-free}
 use Rattle.order.specs.Held.{Four, holds, totalHeld, offerAll, Act, offering, releasing, run}
-use Rattle.order.specs.Given.{pieces, four, ofPair, ofKey, Pair, Bounded, Rearranged, firstOf, given, totalGiven, declareCases, dueCases, due}
+use Rattle.order.specs.Given.{pieces, four, ofPair, ofNumber, Pair, Bounded, Rearranged, firstOf, given, totalGiven, declareCases, dueCases, due}
 use Rattle.order.proofs.Keeping.{Good, kept-collector, empty-good, offer-good, release-good}
 use Rattle.order.proofs.Outcome.{Outcome, turned, joins, starts, finds-none, outcome, atPair, atFree}
-use Rattle.order.proofs.Running.{Feed, some-inj, none-some, held-given, total-given, answer-due, key-parts}
+use Rattle.order.proofs.Running.{Feed, some-inj, none-some, held-given, total-given, answer-due, number-parts}
 use Rattle.order.proofs.Offering.{offered-taken, offered-refused, all-good, all-taken, pieces-yes, pieces-append, pieces-of, of-pieces, accepted-none, refused-some, feed, moved, back, bounded-among}
 use Rattle.order.proofs.Copying.{same-copies}
 
@@ -85,16 +86,16 @@ module _ {B : Type 0} (is : Piece → Bool) (val : Piece → B) where
 
 -- Four bytes are held for a pair's number exactly where some frame given with an accepted heading has that pair, that number and those bytes.
 pub holdings-exact : (qs : List Pair) (fs : List (List ℕ)) → Bounded qs fs → (l v : ℕ) (n : Number) (b : Four)
-    → (holds (offerAll nothing fs) l v n ≡ some b) ↔ Said (ofKey l v n) four fs b
+    → (holds (offerAll nothing fs) l v n ≡ some b) ↔ Said (ofNumber l v n) four fs b
 holdings-exact qs fs r l v n b =
-    let w = said-exact (ofKey l v n) four fs (λ x y i j s t. feed qs fs r .clear x y i j .bytes (own-key l v n x y s t)) b in
+    let w = said-exact (ofNumber l v n) four fs (λ x y i j s t. feed qs fs r .clear x y i j .bytes (own-key l v n x y s t)) b in
     let h = holdings qs fs r l v n .0 in
     (λ e. w .0 (sym h ∙ e), λ s. h ∙ w .1 s)
   where
-    own-key : (l v : ℕ) (n : Number) (x y : Piece) → ofKey l v n x ≡ true → ofKey l v n y ≡ true → ofKey (y .heading .level) (y .heading .version) (y .heading .number) x ≡ true
+    own-key : (l v : ℕ) (n : Number) (x y : Piece) → ofNumber l v n x ≡ true → ofNumber l v n y ≡ true → ofNumber (y .heading .level) (y .heading .version) (y .heading .number) x ≡ true
     own-key l v n x y s t =
-        let k = key-parts l v n y t in
-        ap₂ (λ (i j : ℕ). ofKey i j (y .heading .number) x) (k .0) (k .1) ∙ ap (λ (i : ℕ). ofKey l v (record { 0 = i }) x) (k .2) ∙ s
+        let k = number-parts l v n y t in
+        ap₂ (λ (i j : ℕ). ofNumber i j (y .heading .number) x) (k .0) (k .1) ∙ ap (λ (i : ℕ). ofNumber l v (record { 0 = i }) x) (k .2) ∙ s
 
 -- A total is held for a pair exactly where some frame given with an accepted heading has that pair and that total.
 pub totals-exact : (qs : List Pair) (fs : List (List ℕ)) → Bounded qs fs → (l v : ℕ) (t : Total)
@@ -171,8 +172,8 @@ any-order qs fs gs r p l v =
     let eh : (n : Number) → holds (offerAll nothing fs) l v n ≡ holds (offerAll nothing gs) l v n =
     λ n.
     option-ext _ _
-    (λ b e. holdings-exact qs gs r′ l v n b .1 (said-there (ofKey l v n) four fs gs (moved p) b (holdings-exact qs fs r l v n b .0 e)))
-    (λ b e. holdings-exact qs fs r l v n b .1 (said-there (ofKey l v n) four gs fs (moved (back p)) b (holdings-exact qs gs r′ l v n b .0 e)))
+    (λ b e. holdings-exact qs gs r′ l v n b .1 (said-there (ofNumber l v n) four fs gs (moved p) b (holdings-exact qs fs r l v n b .0 e)))
+    (λ b e. holdings-exact qs fs r l v n b .1 (said-there (ofNumber l v n) four gs fs (moved (back p)) b (holdings-exact qs gs r′ l v n b .0 e)))
     in
     let et : totalHeld (offerAll nothing fs) l v ≡ totalHeld (offerAll nothing gs) l v =
     option-ext _ _

@@ -18,25 +18,28 @@ use Rattle.order.specs.Held.{Four}
 
 -- ---- frames with accepted headings
 
--- what those of a list say, in their order
+-- what those of a list say, in their order (demand 3)
 unfoldable pub pieces : List (List ℕ) → List Piece
 pieces [] = []
 pieces (f ∷ fs) = cond (accepted f) (pieceOf f ∷ pieces fs) (pieces fs)
 
+-- its four bytes (01, Frame heading)
 abbrev pub four : Piece → Four
 four x = (x .a, x .b, x .c, x .d)
 
--- of this pair; and of this number too
+-- of this pair (01, Collector)
 abbrev pub ofPair : ℕ → ℕ → Piece → Bool
 ofPair l v x = eqb (x .heading .level) l && eqb (x .heading .version) v
 
-abbrev pub ofKey : ℕ → ℕ → Number → Piece → Bool
-ofKey l v n x = ofPair l v x && eqb (x .heading .number .0) (n .0)
+-- of this pair and this number (01, Collector)
+abbrev pub ofNumber : ℕ → ℕ → Number → Piece → Bool
+ofNumber l v n x = ofPair l v x && eqb (x .heading .number .0) (n .0)
 
+-- the same four bytes (01, Collector)
 abbrev pub sameBytes : Piece → Piece → Bool
 sameBytes x y = eqb (x .a) (y .a) && (eqb (x .b) (y .b) && (eqb (x .c) (y .c) && eqb (x .d) (y .d)))
 
--- two frames contradict: the same pair, and different totals or the same number with different bytes
+-- two frames contradict: the same pair, and different totals or the same number with different bytes (demand 3)
 unfoldable pub contradict : Piece → Piece → Bool
 contradict x y =
     ofPair (y .heading .level) (y .heading .version) x
@@ -45,13 +48,15 @@ contradict x y =
 
 -- ---- pairs
 
+-- a level and a version (01, Collector)
 abbrev pub Pair : Type 0
 Pair = ℕ × ℕ
 
+-- it is this pair (01, Collector)
 abbrev pub samePair : ℕ → ℕ → Pair → Bool
 samePair l v a = eqb (a .0) l && eqb (a .1) v
 
--- the pair is among those of the list
+-- the pair is among those of the list (demand 3)
 unfoldable pub among : ℕ → ℕ → List Pair → Bool
 among l v [] = false
 among l v (a ∷ qs) = samePair l v a || among l v qs
@@ -62,7 +67,7 @@ pub record Bounded (qs : List Pair) (fs : List (List ℕ)) : Type 0 where
   pub listed : (f : List ℕ) → List·Memᴰ f fs → accepted f ≡ true → among (pieceOf f .heading .level) (pieceOf f .heading .version) qs ≡ true
   pub clear : (f g : List ℕ) → List·Memᴰ f fs → List·Memᴰ g fs → accepted f ≡ true → accepted g ≡ true → contradict (pieceOf f) (pieceOf g) ≡ false
 
--- the same frames in another order
+-- the same frames in another order (demand 3)
 pub data Rearranged : List (List ℕ) → List (List ℕ) → Type 0 where
   none-left : Rearranged [] []
   one-kept : {f : List ℕ} {fs gs : List (List ℕ)} → Rearranged fs gs → Rearranged (f ∷ fs) (f ∷ gs)
@@ -71,71 +76,76 @@ pub data Rearranged : List (List ℕ) → List (List ℕ) → Type 0 where
 
 -- ---- what they give
 
--- what the first frame says that passes a test
+-- what the first frame says that passes a test (demand 3)
 unfoldable pub firstOf : {B : Type 0} → (Piece → Bool) → (Piece → B) → List Piece → Option B
 firstOf is val [] = none
 firstOf is val (x ∷ xs) = cond (is x) (some (val x)) (firstOf is val xs)
 
--- the four bytes of a pair's number
+-- the four bytes of a pair's number (demand 3)
 abbrev pub given : List Piece → ℕ → ℕ → Number → Option Four
-given xs l v n = firstOf (ofKey l v n) four xs
+given xs l v n = firstOf (ofNumber l v n) four xs
 
--- the total of a pair
+-- the total of a pair (demand 3)
 abbrev pub totalGiven : List Piece → ℕ → ℕ → Option Total
 totalGiven xs l v = firstOf (ofPair l v) (λ x. x .heading .total) xs
 
 -- ---- the answer due
 
--- the same frame: heading and four bytes
+-- the same frame: heading and four bytes (demand 3)
 unfoldable pub same : Piece → Piece → Bool
 same x y =
-    ofKey (y .heading .level) (y .heading .version) (y .heading .number) x
+    ofNumber (y .heading .level) (y .heading .version) (y .heading .number) x
     && (eqb (x .heading .total .0) (y .heading .total .0) && sameBytes x y)
 
+-- the same frame is among these (01, Numbers given back, 2)
 unfoldable pub came : List Piece → Piece → Bool
 came [] y = false
 came (x ∷ xs) y = same x y || came xs y
 
+-- there is one; of no paper
 abbrev pub isSome : {A : Type 0} → Option A → Bool
 isSome none = false
 isSome (some a) = true
 
--- every number below the total has its bytes
+-- every number below the total has its bytes (demand 3)
 unfoldable pub full : Total → (Number → Option Four) → Bool
 full t g = below (t .0) (λ n. isSome (g (record { 0 = n })))
 
+-- the four bytes as a list, none where none are given (demand 3)
 abbrev pub bytesOf : Option Four → List ℕ
 bytesOf none = []
 bytesOf (some w) = w .0 ∷ w .1 ∷ w .2 ∷ w .3 ∷ []
 
--- the bytes joined, number by number
+-- the bytes joined, number by number (demand 3)
 unfoldable pub joinedTo : ℕ → (Number → Option Four) → List ℕ
 joinedTo zero g = []
 joinedTo (suc n) g = joinedTo n g ++ bytesOf (g (record { 0 = n }))
 
+-- those of all numbers below the total (01, Collector)
 abbrev pub joinedBy : Total → (Number → Option Four) → List ℕ
 joinedBy t g = joinedTo (t .0) g
 
--- 17 or 1 where every number has its bytes, by the rule of a whole packet; else 0
+-- 17 or 1 where every number has its bytes, by the rule of a whole packet; else 0 (demand 3)
 unfoldable pub declareCases : Total → (Number → Option Four) → List Case
 declareCases t g = (full t g && not (passes (joinedBy t g)), 17) ∷ (full t g && passes (joinedBy t g), 1) ∷ []
 
--- what is given once the frame has come too
+-- what is given once the frame has come too (demand 3)
 abbrev pub givenWith : List Piece → Piece → Number → Option Four
 givenWith xs y n = given (xs ++ (y ∷ [])) (y .heading .level) (y .heading .version) n
 
--- 2 for the same frame again; else the pair is declared where this was its last missing number
+-- 2 for the same frame again; else the pair is declared where this was its last missing number (demand 3)
 unfoldable pub dueCases : List Piece → Piece → List Case
 dueCases xs y = (came xs y, 2) ∷ declareCases (y .heading .total) (givenWith xs y)
 
--- the answer due to a frame, from the frames before it: its heading's refusal first
+-- the answer due to a frame, from the frames before it: its heading's refusal first (demand 3)
 unfoldable pub due : List (List ℕ) → List ℕ → ℕ
 due before f = first (refusals f ++ dueCases (pieces before) (pieceOf f))
 
--- every number of a pair has come: as many as its total says
+-- every number of a pair has come: as many as its total says (demand 3)
 abbrev pub completeBy : Option Total → (Number → Option Four) → Bool
 completeBy none g = false
 completeBy (some t) g = full t g
 
+-- by the total and the bytes that these frames give (demand 3)
 abbrev pub completed : List Piece → ℕ → ℕ → Bool
 completed xs l v = completeBy (totalGiven xs l v) (given xs l v)

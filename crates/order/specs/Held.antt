@@ -14,68 +14,74 @@ use Rattle.collector.specs.declared.Offered.{Offered}
 use Rattle.collector.specs.Places.{isPair, marked}
 use Rattle.collector.specs.Collector.{pieceOf, takenIn, offered, released}
 
--- four bytes of packet
+-- four bytes of packet (01, Frame heading)
 abbrev pub Four : Type 0
 Four = ℕ × ℕ × ℕ × ℕ
 
--- the four bytes that stand at a number, marked or not
+-- the four bytes that stand at a number, marked or not (demand 3)
 abbrev pub bytesAt : Place → Number → Four
 bytesAt p n =
     (getD (p .bytes) (n .0 * 4) 0, getD (p .bytes) (n .0 * 4 + 1) 0, getD (p .bytes) (n .0 * 4 + 2) 0, getD (p .bytes) (n .0 * 4 + 3) 0)
 
--- the four bytes that a place holds at a number
+-- the four bytes that a place holds at a number (demand 3)
 unfoldable pub fourAt : Place → Number → Option Four
 fourAt p n = cond (marked p n) (some (bytesAt p n)) none
 
--- the place that is held for a pair
-unfoldable pub lookup : ℕ → ℕ → List Place → Option Place
-lookup l v [] = none
-lookup l v (p ∷ ps) = cond (isPair l v p) (some p) (lookup l v ps)
+-- the place that is held for a pair (demand 3)
+unfoldable pub heldPlace : ℕ → ℕ → List Place → Option Place
+heldPlace l v [] = none
+heldPlace l v (p ∷ ps) = cond (isPair l v p) (some p) (heldPlace l v ps)
 
+-- what a place holds at a number, where there is one (demand 3)
 abbrev pub holdsIn : Option Place → Number → Option Four
 holdsIn none n = none
 holdsIn (some p) n = fourAt p n
 
+-- and its total (demand 3)
 abbrev pub totalIn : Option Place → Option Total
 totalIn none = none
 totalIn (some p) = some (p .total)
 
--- the four bytes held for a pair's number, and the total held for a pair
+-- the four bytes held for a pair's number (demand 3)
 unfoldable pub holds : Collector → ℕ → ℕ → Number → Option Four
-holds c l v n = holdsIn (lookup l v (c .places)) n
+holds c l v n = holdsIn (heldPlace l v (c .places)) n
 
+-- the total held for a pair (demand 3)
 unfoldable pub totalHeld : Collector → ℕ → ℕ → Option Total
-totalHeld c l v = totalIn (lookup l v (c .places))
+totalHeld c l v = totalIn (heldPlace l v (c .places))
 
--- the frames offered one after the other
+-- the frames offered one after the other (demand 3)
 unfoldable pub offerAll : Collector → List (List ℕ) → Collector
 offerAll c [] = c
 offerAll c (f ∷ fs) = offerAll (offered c f .collector) fs
 
--- what is left of it where the headings are accepted
+-- what is left of it where the headings are accepted (demand 3)
 unfoldable pub takeAll : Collector → List Piece → Collector
 takeAll c [] = c
 takeAll c (x ∷ xs) = takeAll (takenIn c x .collector) xs
 
--- offers and releases, one after the other
+-- offers and releases, one after the other (demand 3)
 pub data Act : Type 0 where
   offering : List ℕ → Act
   releasing : ℕ → ℕ → Act
 
+-- what one of them answers and leaves (01, Collector)
 abbrev pub done : Collector → Act → Offered
 done c (offering f) = offered c f
 done c (releasing l v) = released c l v
 
+-- all of them in turn (demand 3)
 unfoldable pub run : Collector → List Act → Collector
 run c [] = c
 run c (a ∷ acts) = run (done c a .collector) acts
 
--- a frame of this pair is answered 1 or 17; and how often that comes in a run
+-- a frame of this pair is answered 1 or 17 (demand 3)
 unfoldable pub declares : ℕ → ℕ → Collector → List ℕ → Bool
 declares l v c f =
     (eqb (pieceOf f .heading .level) l && eqb (pieceOf f .heading .version) v)
     && (eqb (offered c f .answer) 1 || eqb (offered c f .answer) 17)
 
+-- how often the pair is declared in a run (demand 3)
 unfoldable pub declarations : ℕ → ℕ → Collector → List (List ℕ) → ℕ
 declarations l v c [] = 0
 declarations l v c (f ∷ fs) = cond (declares l v c f) 1 0 + declarations l v (offered c f .collector) fs

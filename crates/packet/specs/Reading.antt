@@ -21,75 +21,86 @@ use Rattle.packet.specs.Content.{contentOf, numbersIn, noSuchDay}
 abbrev pub kindIn : List ℕ → ℕ
 kindIn b = at (bits b) 0 5
 
+-- L, all bytes but the first two (01, Packet)
 abbrev pub lengthIn : List ℕ → ℕ
 lengthIn b = at (bits b) 5 11
 
+-- n (01, Packet)
 abbrev pub codesIn : List ℕ → ℕ
 codesIn b = at (bits b) 16 8
 
+-- the kind that the type names (000, table 2)
 abbrev pub formIn : List ℕ → Form
 formIn b = formOf (kindIn b)
 
--- ---- the content: where its bits begin, how many bytes it has, how often its row stands
+-- ---- the content: where its bits begin, how many bytes it has, how often its row stands (01, Packet)
 abbrev pub contentAt : List ℕ → ℕ
 contentAt b = 24 + 96 * codesIn b
 
+-- P - 77 - 12n bytes (01, Packet)
 abbrev pub contentSize : List ℕ → ℕ
 contentSize b = length b - 77 - 12 * codesIn b
 
+-- k, m or t; all bytes of a raw content (01, Packet)
 unfoldable pub countOf : List ℕ → ℕ
 countOf b = countIn (rowOf (formIn b)) (bits b) (contentAt b) (contentSize b)
 
--- ---- the table that the packet names, and its values by it
+-- ---- the table that the packet names, and its values by it (our table language)
 unfoldable pub tableOf : List ℕ → List Line
 tableOf b = packet (rowOf (formIn b)) (kindIn b) (length b) (codesIn b) (countOf b)
 
+-- a list of numbers for each line (01, Packet)
 abbrev pub valuesIn : List ℕ → List (List ℕ)
 valuesIn b = decode (tableOf b) (bits b) 0
 
 -- ---- the numbers of the content's three parts
--- what is repeated begins so many bits into the content: after the first lines and the count
+-- what is repeated begins so many bits into the content: after the first lines and the count (our table language)
 unfoldable pub partAt : Row → ℕ
 partAt r = size (r .before) + size (countLine (r .sort) 0)
 
--- those of the lines ts that begin at place p
+-- those of the lines ts that begin at place p (our table language)
 abbrev pub numbersAt : List Line → List ℕ → ℕ → List ℕ
 numbersAt ts b p = flat ts (decode ts (bits b) p)
 
+-- those before what is repeated (01, Packet)
 unfoldable pub frontIn : List ℕ → List ℕ
 frontIn b = numbersAt (rowOf (formIn b) .before) b (contentAt b)
 
+-- those that are repeated (01, Packet)
 unfoldable pub bodyIn : List ℕ → List ℕ
 bodyIn b = numbersAt (times (countOf b) (rowOf (formIn b) .each)) b (contentAt b + partAt (rowOf (formIn b)))
 
+-- those behind (01, Packet)
 unfoldable pub backIn : List ℕ → List ℕ
 backIn b =
     numbersAt (rowOf (formIn b) .after) b
     (contentAt b + (partAt (rowOf (formIn b)) + countOf b * size (rowOf (formIn b) .each)))
 
--- ---- the fields
+-- ---- the fields (01, Packet)
 abbrev pub contentIn : List ℕ → Content
 contentIn b = contentOf (formIn b) (frontIn b) (countOf b)
 
--- the digits beside the content: what stands after its numbers, and after its bytes
+-- the digits beside the content: what stands after its numbers, and after its bytes (01, Packet)
 abbrev pub digitsIn : List ℕ → List ℕ
 digitsIn b = drop (numbersIn (formIn b)) (frontIn b) ++ backIn b
 
--- n zeros, and a list with zeros after it to length n
+-- n zeros (01, Numbers given back)
 unfoldable pub zeros : ℕ → List ℕ
 zeros n = replicate n 0
 
+-- xs, then zeros up to n in all (01, Numbers given back)
 abbrev pub padded : ℕ → List ℕ → List ℕ
 padded n xs = sets (zeros n) 0 xs
 
--- the digits of the codes, 23 a code
+-- the digits of the codes, 23 a code (01, Packet)
 unfoldable pub codesOf : List ℕ → List ℕ
 codesOf b = numbersAt (times (codesIn b) code) b 24
 
--- frequencies have entries, and the others bytes
+-- frequencies have entries, and the others bytes (01, Packet)
 abbrev pub hasEntries : Form → Bool
 hasEntries f = eqb (typeOf f) 0
 
+-- the common fields: time, certificate and signature stand 74, 70 and 64 bytes before the end (000, table 1)
 unfoldable pub fieldsOf : List ℕ → Fields
 fieldsOf b =
     record {
@@ -107,18 +118,19 @@ fieldsOf b =
 unfoldable pub sizeBad : List ℕ → Bool
 sizeBad b = not ((leb 77 (length b) && leb (length b) 250) && (eqb (length b) (lengthIn b + 2) && leb (77 + 12 * codesIn b) (length b)))
 
--- 26: the content's lines are not as long as the content
+-- 26: the content's lines are not as long as the content (01, Numbers given back)
 unfoldable pub lengthBad : List ℕ → Bool
 lengthBad b = not (eqb (size (contentLines (rowOf (formIn b)) (countOf b))) (8 * contentSize b))
 
+-- 23: a type that is neither opened nor carried (01, Numbers given back)
 abbrev pub isUnknown : Form → Bool
 isUnknown f = eqb (typeOf f) 31
 
--- 27: a field outside its range, or no such day
+-- 27: a field outside its range, or no such day (01, Numbers given back)
 abbrev pub fieldBad : List ℕ → Bool
 fieldBad b = not (fine 27 (tableOf b) (valuesIn b)) || noSuchDay (contentIn b)
 
--- the cases before a field's; x is what is answered 27
+-- the cases before a field's; x is what is answered 27 (01, Numbers given back)
 abbrev pub casesThen : List ℕ → Bool → List Case
 casesThen b x =
     (sizeBad b, 20)
@@ -129,20 +141,24 @@ casesThen b x =
     ∷ (x, 27)
     ∷ []
 
+-- the reader's cases (01, Numbers given back)
 abbrev pub readCases : List ℕ → List Case
 readCases b = casesThen b (fieldBad b)
 
+-- its number (01, Numbers given back)
 unfoldable pub readAnswer : List ℕ → ℕ
 readAnswer b = first (readCases b)
 
--- ---- what is opened; beside a refusal all zero, the content raw
+-- ---- what is opened; beside a refusal all zero, the content raw (01, Numbers given back)
 unfoldable pub noFields : Fields
 noFields =
     record { kind = 0; codes = 0; content = content.Raw; digits = zeros 35; time = 0; certificate = zeros 12; signature = zeros 64 }
 
+-- a number and nothing beside it (01, Numbers given back)
 abbrev pub refusedAs : ℕ → Opened
 refusedAs a = record { answer = a; fields = noFields; codes = zeros 322; entries = zeros 272 }
 
+-- all that is opened beside 0 (01, Packet)
 abbrev pub openedBy : ℕ → List ℕ → Opened
 openedBy zero b =
     record {
@@ -153,26 +169,29 @@ openedBy zero b =
     }
 openedBy (suc a) b = refusedAs (suc a)
 
+-- what `read` gives (01, Numbers given back)
 unfoldable pub opened : List ℕ → Opened
 opened b = openedBy (readAnswer b) b
 
--- ---- parts of the packet: k bytes from a byte on, where the answer is 0
+-- ---- parts of the packet: k bytes from a byte on, where the answer is 0 (01, Packet)
 abbrev pub partBy : ℕ → ℕ → ℕ → List ℕ → List ℕ
 partBy zero from k b = take k (drop from b)
 partBy (suc a) from k b = []
 
--- the address, the text, the command or the raw bytes
+-- the address, the text, the command or the raw bytes (01, Packet)
 unfoldable pub bodyOf : List ℕ → List ℕ
 bodyOf b =
     partBy (readAnswer b) (3 + 12 * codesIn b + partAt (rowOf (formIn b)) / 8)
     (cond (hasEntries (formIn b)) 0 (countOf b)) b
 
--- the text, 20 bytes into the content; 27 where the type is not 15
+-- the text, 20 bytes into the content; 27 where the type is not 15 (01, Numbers given back)
 abbrev pub textCases : List ℕ → List Case
 textCases b = casesThen b (fieldBad b || not (eqb (kindIn b) 15))
 
+-- the number that goes with the text (01, Numbers given back)
 unfoldable pub textAnswer : List ℕ → ℕ
 textAnswer b = first (textCases b)
 
+-- what `text` hands back (01, Packet)
 unfoldable pub textOf : List ℕ → List ℕ
 textOf b = partBy (textAnswer b) (23 + 12 * codesIn b) (countOf b) b

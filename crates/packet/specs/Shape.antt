@@ -9,11 +9,13 @@ use Rattle.packet.specs.declared.Lines.{Lines}
 use Rattle.packet.specs.declared.Shape.{Shape}
 use Rattle.packet.specs.Table.{Row}
 
+-- a list of six in code stands for the lines ts (01, Packet)
 pub record Listed (r : Lines) (ts : List Line) : Type 0 where
   pub lines : take (r .m) (r .all) ≡ ts
   pub few : r .m ≤ 6
   pub rest : drop (r .m) (r .all) ≡ replicate (6 - r .m) (octets 0)
 
+-- a row in code stands for a row of the table (01, Packet)
 pub record Shaped (r : Shape) (t : Row) : Type 0 where
   pub same : r .sort ≡ t .sort
   pub first : Listed (r .before) (t .before)

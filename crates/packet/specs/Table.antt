@@ -16,6 +16,7 @@ abbrev pub pick : Bool → Form → Form → Form
 pick true a b = a
 pick false a b = b
 
+-- what is opened, what is carried raw, and what is refused (000, table 2; 01, What travels)
 unfoldable pub formOf : ℕ → Form
 formOf t =
     pick (eqb t 0) Frequencies
@@ -33,7 +34,7 @@ formOf t =
     (pick (leb 22 t && leb t 24) Raw
     Unknown))))))))))))
 
--- a type of each kind, for comparing kinds: the only one, but for Raw and Unknown
+-- a type of each kind, for comparing kinds: the only one, but for Raw and Unknown (000, table 2)
 abbrev pub typeOf : Form → ℕ
 typeOf Frequencies = 0
 typeOf Address = 1
@@ -48,20 +49,22 @@ typeOf Hold = 21
 typeOf Raw = 4
 typeOf Unknown = 31
 
--- ---- a row of the table of contents: lines, a row of lines that is repeated, lines; where counted, the count stands after the first
+-- ---- a row of the table of contents: lines, a row of lines that is repeated, lines; where counted, the count stands after the first (01, Packet)
 pub record Row : Type 0 where
   pub sort : Sort
   pub before : List Line
   pub each : List Line
   pub after : List Line
 
+-- a row with no count (01, Packet)
 abbrev pub fixed : List Line → Row
 fixed ls = record { sort = sort.Fixed; before = ls; each = []; after = [] }
 
+-- a row whose repeated lines are counted (01, Packet)
 abbrev pub counted : List Line → List Line → List Line → Row
 counted ls row rest = record { sort = sort.Counted; before = ls; each = row; after = rest }
 
--- the table of contents
+-- the table of contents (01, Packet)
 abbrev pub rowOf : Form → Row
 rowOf Frequencies = counted [] (num 8 1 255 ∷ any 8 ∷ digits 6 ∷ []) []
 rowOf Address = counted [] (octets 1 ∷ []) (ones 4 ∷ digits 23 ∷ [])
@@ -76,14 +79,14 @@ rowOf Hold = fixed (any 8 ∷ ones 8 ∷ [])
 rowOf Raw = record { sort = sort.Raw; before = []; each = octets 1 ∷ []; after = [] }
 rowOf Unknown = record { sort = sort.Unknown; before = []; each = []; after = [] }
 
--- the count of a counted content, k; it has 8 bits
+-- the count of a counted content, k; it has 8 bits (01, Packet)
 abbrev pub countLine : Sort → ℕ → List Line
 countLine sort.Fixed k = []
 countLine sort.Counted k = just 8 k ∷ []
 countLine sort.Raw k = []
 countLine sort.Unknown k = []
 
--- the lines of a content whose row stands k times
+-- the lines of a content whose row stands k times (01, Packet)
 unfoldable pub contentLines : Row → ℕ → List Line
 contentLines r k = r .before ++ (countLine (r .sort) k ++ (times k (r .each) ++ r .after))
 
@@ -91,14 +94,15 @@ contentLines r k = r .before ++ (countLine (r .sort) k ++ (times k (r .each) ++ 
 abbrev pub code : List Line
 code = ones 4 ∷ digits 23 ∷ []
 
+-- time, certificate number, signature (000, table 1)
 abbrev pub ending : List Line
 ending = any 32 ∷ digits 12 ∷ octets 64 ∷ []
 
--- a packet of type t and p bytes, with n codes and a content whose row stands k times
+-- a packet of type t and p bytes, with n codes and a content whose row stands k times (01, Packet)
 unfoldable pub packet : Row → ℕ → ℕ → ℕ → ℕ → List Line
 packet r t p n k = just 5 t ∷ just 11 (p - 2) ∷ just 8 n ∷ (times n code ++ (contentLines r k ++ ending))
 
--- how often the row stands in a content of m bytes that begins at place q of the bits l
+-- how often the row stands in a content of m bytes that begins at place q of the bits l (01, Packet)
 abbrev pub countIn : Row → List ℕ → ℕ → ℕ → ℕ
 countIn r l q m = by (r .sort)
   where

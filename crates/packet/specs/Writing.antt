@@ -17,41 +17,48 @@ use Rattle.packet.specs.Table.{formOf, typeOf, Row, rowOf, contentLines,
 use Rattle.packet.specs.Content.{formFor, numbersOf, countFor, noSuchDay}
 use Rattle.packet.specs.Reading.{isUnknown}
 
--- ---- the content's own row, and its numbers in the order of its lines
+-- ---- the content's own row, and its numbers in the order of its lines (01, Packet)
 abbrev pub rowFor : Content → Row
 rowFor c = rowOf (formFor c)
 
--- so many digits stand before the count, and so many after the bytes
+-- so many digits stand before the count, and so many after the bytes (01, Packet)
 abbrev pub digitsBefore : Content → ℕ
 digitsBefore c = need (rowFor c .before) - length (numbersOf c)
 
+-- so many behind them (01, Packet)
 abbrev pub digitsAfter : Content → ℕ
 digitsAfter c = need (rowFor c .after)
 
+-- the numbers before what is repeated (01, Packet)
 unfoldable pub frontFor : Content → List ℕ → List ℕ
 frontFor c ds = numbersOf c ++ take (digitsBefore c) ds
 
+-- those behind (01, Packet)
 unfoldable pub backFor : Content → List ℕ → List ℕ
 backFor c ds = take (digitsAfter c) ds
 
--- as much of what is lent as the content counts
+-- as much of what is lent as the content counts (01, Packet)
 unfoldable pub bodyFor : Content → List ℕ → List ℕ
 bodyFor c body = take (countFor c body * need (rowFor c .each)) body
 
--- ---- the packet's size, table, numbers and bytes
+-- ---- the packet's size, table, numbers and bytes (01, Packet)
 unfoldable pub sizeFor : Fields → List ℕ → ℕ
 sizeFor f body = 77 + 12 * f .codes + size (contentLines (rowFor (f .content)) (countFor (f .content) body)) / 8
 
+-- the lines of the whole packet (000, table 1)
 unfoldable pub tableFor : Fields → List ℕ → List Line
 tableFor f body = packet (rowFor (f .content)) (f .kind) (sizeFor f body) (f .codes) (countFor (f .content) body)
 
+-- the numbers of all free lines, in their order (000, table 1)
 unfoldable pub numbersFor : Fields → List ℕ → List ℕ → List ℕ
 numbersFor f codes body =
     codes ++ (frontFor (f .content) (f .digits) ++ (bodyFor (f .content) body ++ (backFor (f .content) (f .digits) ++ (f .time ∷ (f .certificate ++ f .signature)))))
 
+-- the same by lines (000, table 1)
 abbrev pub valuesFor : Fields → List ℕ → List ℕ → List (List ℕ)
 valuesFor f codes body = fill (tableFor f body) (numbersFor f codes body)
 
+-- the packet (000, table 1)
 unfoldable pub bytesFor : Fields → List ℕ → List ℕ → List ℕ
 bytesFor f codes body = bytes (encode (tableFor f body) (valuesFor f codes body))
 
@@ -63,12 +70,13 @@ lentBad sort.Counted k w body = not (leb k 255 && eqb (length body) (k * w))
 lentBad sort.Raw k w body = false
 lentBad sort.Unknown k w body = false
 
+-- of the codes or of the content (01, Numbers given back)
 unfoldable pub countBad : Fields → List ℕ → List ℕ → Bool
 countBad f codes body =
     not (leb (f .codes) 255 && eqb (length codes) (f .codes * 23))
     || lentBad (rowFor (f .content) .sort) (countFor (f .content) body) (need (rowFor (f .content) .each)) body
 
--- 25: a digit above 9, in the lines or in the places of digits that the content doesn't use
+-- 25: a digit above 9, in the lines or in the places of digits that the content doesn't use (01, Numbers given back)
 unfoldable pub digitBad : Fields → List ℕ → List ℕ → Bool
 digitBad f codes body = not (fine 25 (tableFor f body) (valuesFor f codes body)) || not (inside 0 9 (f .digits))
 
@@ -77,15 +85,18 @@ digitBad f codes body = not (fine 25 (tableFor f body) (valuesFor f codes body))
 abbrev pub otherType : Fields → Bool
 otherType f = not (eqb (typeOf (formOf (f .kind))) (typeOf (formFor (f .content))))
 
+-- a body for a content that has none (01, Numbers given back)
 abbrev pub bodyLost : Sort → List ℕ → Bool
 bodyLost sort.Fixed body = not (eqb (length body) 0)
 bodyLost sort.Counted body = false
 bodyLost sort.Raw body = false
 bodyLost sort.Unknown body = false
 
+-- digits in places that the content does not use (01, Numbers given back)
 abbrev pub digitsLost : Content → List ℕ → Bool
 digitsLost c ds = not (inside 0 0 (drop (digitsBefore c + digitsAfter c) ds))
 
+-- any of these (01, Numbers given back)
 unfoldable pub notTaken : Fields → List ℕ → List ℕ → Bool
 notTaken f codes body =
     otherType f
@@ -94,6 +105,7 @@ notTaken f codes body =
     || ((eqb (f .kind) 1 && not (eqb (f .codes) 0))
     || (not (fine 27 (tableFor f body) (valuesFor f codes body)) || noSuchDay (f .content)))))
 
+-- the writer's cases (01, Numbers given back)
 abbrev pub writeCases : Fields → List ℕ → List ℕ → ℕ → List Case
 writeCases f codes body room =
     (isUnknown (formOf (f .kind)), 23)
@@ -104,20 +116,24 @@ writeCases f codes body room =
     ∷ (ltb room (sizeFor f body), 10)
     ∷ []
 
+-- its number (01, Numbers given back)
 unfoldable pub writtenAnswer : Fields → List ℕ → List ℕ → ℕ → ℕ
 writtenAnswer f codes body room = first (writeCases f codes body room)
 
--- ---- what is written: P bytes, or nothing
+-- ---- what is written: P bytes, or nothing (01, Numbers given back)
 abbrev pub writtenBy : ℕ → ℕ → Written
 writtenBy zero p = record { answer = 0; length = p }
 writtenBy (suc a) p = record { answer = suc a; length = 0 }
 
+-- what `write` gives (01, Numbers given back)
 unfoldable pub written : Fields → List ℕ → List ℕ → ℕ → Written
 written f codes body room = writtenBy (writtenAnswer f codes body room) (sizeFor f body)
 
+-- the packet's bytes at the start beside 0, else all as it was (01, Numbers given back)
 abbrev pub outputBy : ℕ → List ℕ → List ℕ → List ℕ
 outputBy zero xs out = xs ++ drop (length xs) out
 outputBy (suc a) xs out = out
 
+-- what `write` leaves in the lent output (01, Numbers given back)
 unfoldable pub outputOf : Fields → List ℕ → List ℕ → List ℕ → List ℕ
 outputOf f codes body out = outputBy (writtenAnswer f codes body (length out)) (bytesFor f codes body) out

@@ -18,7 +18,7 @@ use Rattle.receiver.proofs.Answers.{refused-unchanged as receive-refused}
 use Rattle.collector.specs.declared.Collector.{Collector}
 use Rattle.collector.specs.Places.{copyAnswer}
 use Rattle.collector.specs.Collector.{keeps, offerCases, offered, releaseCases, released, copiedCases, answered, copied}
-use Rattle.collector.proofs.Laws.{offer-apart, release-apart, copy-apart}
+use Rattle.collector.proofs.Calls.{offer-apart, release-apart, copy-apart}
 use Rattle.order.proofs.Theorems.{refusal-keeps}
 use Rattle.promises.specs.Exactly.{Exactly}
 use Rattle.promises.proofs.Sent.{numbers-apart}

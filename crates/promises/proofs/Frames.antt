@@ -27,11 +27,11 @@ use Rattle.collector.specs.declared.Piece.{Piece}
 use Rattle.collector.specs.Whole.{packetSize, passes}
 use Rattle.collector.specs.Places.{isPair, complete, joined, whole, copyCases, copyAnswer, copyBytes}
 use Rattle.collector.specs.Collector.{nothing, indexOfPair, placeOf, pieceOf, offered, answered, copied}
-use Rattle.collector.proofs.Laws.{copy-held}
-use Rattle.order.specs.Held.{Four, fourAt, lookup, holdsIn, totalIn, holds, totalHeld, offerAll}
+use Rattle.collector.proofs.Calls.{copy-held}
+use Rattle.order.specs.Held.{Four, fourAt, heldPlace, holdsIn, totalIn, holds, totalHeld, offerAll}
 use Rattle.order.specs.Given.{pieces, four, Bounded, given, totalGiven, isSome, full, joinedTo, bytesOf, declareCases, dueCases, due}
 use Rattle.order.proofs.Keeping.{Good, empty-good}
-use Rattle.order.proofs.Lookup.{lookup-found, lookup-missing}
+use Rattle.order.proofs.HeldPlace.{held-place-found, held-place-missing}
 use Rattle.order.proofs.Declaring.{complete-full, joined-full}
 use Rattle.order.proofs.Running.{some-inj, none-some}
 use Rattle.order.proofs.Copying.{place-sound}
@@ -175,12 +175,12 @@ module _ (p : List ℕ) (l v : ℕ) (u : Under 256 p) (t : Taken p l v) where
       ∙ ap (λ (xs : List Piece). totalGiven xs l v) all-pieces
       ∙ total-in p l v u t N 0 (frames-few p l v t .0)
 
-  found : lookup l v (ended .places) ≡ some place
+  found : heldPlace l v (ended .places) ≡ some place
   unfolding indexOfPair totalHeld
   found =
       by-test (ltb (indexOf (isPair l v) (ended .places)) (length (ended .places)))
-      (λ e. lookup-found l v (ended .places) (ltb-true _ _ e))
-      (λ e. absurd (none-some (sym (ap totalIn (lookup-missing l v (ended .places) (ltb-false _ _ e))) ∙ total-end)))
+      (λ e. held-place-found l v (ended .places) (ltb-true _ _ e))
+      (λ e. absurd (none-some (sym (ap totalIn (held-place-missing l v (ended .places) (ltb-false _ _ e))) ∙ total-end)))
 
   total-is : place .total ≡ T
   unfolding totalHeld

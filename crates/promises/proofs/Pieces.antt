@@ -21,7 +21,7 @@ use Rattle.frame.proofs.Accepted.{answer-is, fields-are}
 use Rattle.air.specs.OnAir.{framesFor, carried, frameOf, headingFor, framesFrom, framesOf}
 use Rattle.collector.specs.declared.Piece.{Piece}
 use Rattle.collector.specs.Collector.{pieceWith, pieceOf}
-use Rattle.order.specs.Given.{pieces, four, ofKey, contradict, among, Bounded, firstOf, given, totalGiven, same, came}
+use Rattle.order.specs.Given.{pieces, four, ofNumber, contradict, among, Bounded, firstOf, given, totalGiven, same, came}
 use Rattle.order.proofs.Offering.{pieces-yes}
 use Rattle.promises.proofs.Sent.{Taken, carried-small, eight-of, fits}
 
@@ -82,7 +82,7 @@ module _ (p : List ℕ) (l v : ℕ) (u : Under 256 p) (t : Taken p l v) where
       ap (λ (xs : List Piece). pieceAt k ∷ xs) (ap (λ (j : ℕ). piecesFrom (k + 1) n ++ (pieceAt j ∷ [])) e ∙ pieces-on n (k + 1))
 
   -- ---- what they give
-  own : (k m : ℕ) → ofKey l v (record { 0 = m }) (pieceAt k) ≡ eqb k m
+  own : (k m : ℕ) → ofNumber l v (record { 0 = m }) (pieceAt k) ≡ eqb k m
   own k m = let a = eq-eqb l l refl in let b = eq-eqb v v refl in rw (a, b)
 
   pub given-in : (n k m : ℕ) → k ≤ m → m < k + n → given (piecesFrom k n) l v (record { 0 = m }) ≡ some (four (pieceAt m))

@@ -7,7 +7,7 @@ use Prim.Native.Nat.{ℕ, _<_}
 use lib.ListN.{length, take}
 use Rattle.laws.specs.Refusals.{Case, none, among, caseAt}
 
--- each number comes exactly when its case holds and none before it does; 0 exactly when no case holds; and no other number comes
+-- each number comes exactly when its case holds and none before it does; 0 exactly when no case holds; and no other number comes (01, Numbers given back)
 pub record Exactly (answer : ℕ) (cases : List Case) : Type 0 where
   pub each : (k : ℕ) → k < length cases → (answer ≡ caseAt cases k .1) ↔ ((caseAt cases k .0 ≡ true) × (none (take k cases) ≡ true))
   pub done : (answer ≡ 0) ↔ (none cases ≡ true)

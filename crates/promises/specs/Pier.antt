@@ -12,8 +12,9 @@ use Rattle.air.specs.OnAir.{framesFor}
 use Rattle.packet.specs.declared.Fields.{Fields}
 use Rattle.packet.specs.Writing.{sizeFor, bytesFor, writtenAnswer}
 use Rattle.packet.specs.Examples.{textSample, holdSample}
+use Rattle.frame.specs.Examples.{numbered}
 
--- what an example says
+-- what an example says (01, Pier examples)
 pub data Example : Type 0 where
   -- the check word of an information word with an offset added
   check : (info offset word : ℕ) → Example
@@ -28,7 +29,7 @@ pub data Example : Type 0 where
   -- how many frames a packet of so many bytes takes, and how many bytes of fill
   frames : (size count fill : ℕ) → Example
 
--- it is so by the definitions that the contracts cite
+-- it is so by the definitions that the contracts cite (01, Pier examples)
 unfoldable pub holds : Example → Bool
 holds (check info offset word) = eqb (checkWord info offset) word
 holds (blocks h one two) = eqb (headingWords h .0) one && eqb (headingWords h .1) two
@@ -39,10 +40,7 @@ holds (packet f codes body size first second) =
 holds (refused f codes body answer) = eqb (writtenAnswer f codes body 4096) answer
 holds (frames size count fill) = eqb (framesFor size) count && eqb (count * 4) (size + 2 + fill)
 
--- level 5, version 3, total 20
-abbrev pub numbered : ℕ → Heading
-numbered n = record { level = 5; version = 3; total = record { 0 = 20 }; number = record { 0 = n } }
-
+-- the cases in the order of the paper (01, Pier examples)
 unfoldable pub examples : List Example
 examples =
     check 0x0000 (offsetOf A) 0x0FC

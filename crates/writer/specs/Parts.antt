@@ -12,55 +12,62 @@ use Rattle.packet.specs.Table.{countLine, contentLines}
 use Rattle.packet.specs.Content.{countFor}
 use Rattle.packet.specs.Writing.{rowFor, frontFor, backFor, bodyFor, sizeFor}
 
--- a content: its first lines and its count; what is repeated; its last lines
+-- a content: its first lines and its count; what is repeated; its last lines (01, Packet)
 unfoldable pub frontBits : Content → List ℕ → ℕ → List ℕ
 frontBits c ds k =
     encode (rowFor c .before) (fill (rowFor c .before) (frontFor c ds)) ++ encode (countLine (rowFor c .sort) k) (fill (countLine (rowFor c .sort) k) [])
 
+-- how many bits that is (01, Packet)
 unfoldable pub frontSize : Content → ℕ → ℕ
 frontSize c k = size (rowFor c .before) + size (countLine (rowFor c .sort) k)
 
+-- what is repeated (01, Packet)
 unfoldable pub bodyBits : Content → List ℕ → List ℕ
 bodyBits c body = encode (times (countFor c body) (rowFor c .each)) (fill (times (countFor c body) (rowFor c .each)) (bodyFor c body))
 
+-- how many bits that is (01, Packet)
 unfoldable pub bodySize : Content → List ℕ → ℕ
 bodySize c body = countFor c body * size (rowFor c .each)
 
+-- the last lines (01, Packet)
 unfoldable pub backBits : Content → List ℕ → List ℕ
 backBits c ds = encode (rowFor c .after) (fill (rowFor c .after) (backFor c ds))
 
--- a body of which no count is wrong: at most 255 rows, and as many numbers as they need
+-- a body of which no count is wrong: at most 255 rows, and as many numbers as they need (01, Packet)
 pub record Lent (c : Content) (body : List ℕ) : Type 0 where
   pub few : countFor c body ≤ 255
   pub numbers : length body ≡ countFor c body * need (rowFor c .each)
 
--- the whole content
+-- the whole content (01, Packet)
 abbrev pub linesFor : Content → List ℕ → List Line
 linesFor c body = contentLines (rowFor c) (countFor c body)
 
+-- its bits (01, Packet)
 unfoldable pub contentBits : Content → List ℕ → List ℕ → List ℕ
 contentBits c ds body = encode (linesFor c body) (fill (linesFor c body) (frontFor c ds ++ (bodyFor c body ++ backFor c ds)))
 
+-- how many they are (01, Packet)
 unfoldable pub contentSize : Content → List ℕ → ℕ
 contentSize c body = size (linesFor c body)
 
--- what stands before the codes, and behind the content
+-- what stands before the codes (000, table 1)
 unfoldable pub headBits : ℕ → ℕ → ℕ → List ℕ
 headBits kind p n = bitsOf 5 kind ++ (bitsOf 11 (p - 2) ++ bitsOf 8 n)
 
+-- time, certificate number, signature (000, table 1)
 unfoldable pub endingBits : ℕ → List ℕ → List ℕ → List ℕ
 endingBits time certificate signature = bitsOf 32 time ++ (spread 4 certificate ++ spread 8 signature)
 
--- as much of the body as the content's rows need
+-- as much of the body as the content's rows need (01, Packet)
 abbrev pub Bodied : Content → List ℕ → Type 0
 Bodied c body = length (bodyFor c body) ≡ countFor c body * need (rowFor c .each)
 
--- counts that are those of what is lent
+-- counts that are those of what is lent (01, Packet)
 pub record Counts (f : Fields) (codes body : List ℕ) : Type 0 where
   pub bodied : Bodied (f .content) body
   pub coded : length codes ≡ f .codes * 23
 
--- fields that can be written: besides, all of the body is the content's, and the packet is not too long
+-- fields that can be written: besides, all of the body is the content's, and the packet is not too long (01, Packet)
 pub record Writable (f : Fields) (codes body : List ℕ) : Type 0 where
   pub counts : Counts f codes body
   pub lent : Lent (f .content) body

@@ -12,13 +12,16 @@ use Rattle.packet.specs.declared.Fields.{Fields}
 use Rattle.packet.specs.Content.{countFor}
 use Rattle.packet.specs.Writing.{rowFor, bodyFor, otherType, bodyLost, digitsLost}
 
+-- lo to hi (01, Numbers given back, 27)
 abbrev pub within : ℕ → ℕ → ℕ → Bool
 within x lo hi = leb lo x && leb x hi
 
+-- the numbers of a clock (01, Packet, type 3)
 abbrev pub clockFine : ℕ → ℕ → ℕ → ℕ → ℕ → Bool
 clockFine month day hour minute second =
     within month 1 12 && (within day 1 31 && (within hour 0 23 && (within minute 0 59 && within second 0 59)))
 
+-- those of any content (01, Packet)
 abbrev pub rangeFine : Content → Bool
 rangeFine content.Raw = true
 rangeFine (content.Frequencies k) = true
@@ -32,17 +35,18 @@ rangeFine (content.Text kind set t) = within kind 1 3 && within set 0 4
 rangeFine (content.Command k) = true
 rangeFine (content.Hold serial) = true
 
--- ---- what the counts ask, where so many numbers are lent
+-- ---- what the counts ask, where so many numbers are lent (01, Numbers given back)
 abbrev pub lostOf : Sort → ℕ → Bool
 lostOf sort.Fixed lent = not (eqb lent 0)
 lostOf sort.Counted lent = false
 lostOf sort.Raw lent = false
 lostOf sort.Unknown lent = false
 
--- rows of w numbers
+-- rows of w numbers (01, Numbers given back)
 abbrev pub rowsBad : ℕ → ℕ → ℕ → Bool
 rowsBad k w lent = not (leb k 255 && eqb lent (k * w))
 
+-- 26 for a count that is not that of what is lent (01, Numbers given back)
 abbrev pub badOf : Content → ℕ → Bool
 badOf content.Raw lent = false
 badOf (content.Frequencies k) lent = rowsBad k 8 lent
@@ -70,10 +74,11 @@ bytesOf (content.Text kind set t) lent = 20 + t
 bytesOf (content.Command k) lent = 1 + k
 bytesOf (content.Hold serial) lent = 2
 
--- ---- answer 27, in two parts: what could not be handed back, and what is repeated
+-- ---- answer 27, in two parts: what could not be handed back, and what is repeated (01, Numbers given back)
 unfoldable pub somethingLost : Fields → List ℕ → Bool
 somethingLost f body =
     otherType f || (bodyLost (rowFor (f .content) .sort) body || (digitsLost (f .content) (f .digits) || (eqb (f .kind) 1 && not (eqb (f .codes) 0))))
 
+-- no line of what is repeated is due the answer a (01, Numbers given back)
 abbrev pub rowsFine : ℕ → Content → List ℕ → Bool
 rowsFine a c body = fine a (times (countFor c body) (rowFor c .each)) (fill (times (countFor c body) (rowFor c .each)) (bodyFor c body))

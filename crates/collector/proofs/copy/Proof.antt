@@ -7,7 +7,8 @@ use borrow.Author.Tests.{not-true, not-false}
 use lib.ListN.{length, getD}
 use Rattle.laws.proofs.Elements.{length-mapped}
 use Rattle.collector.specs.Places.{blank}
-use Rattle.collector.proofs.Laws.{copy-28, copy-none, copy-held, good-at, total-small, is-held, is-not-held}
+use Rattle.collector.proofs.Calls.{copy-28, copy-none, copy-held}
+use Rattle.collector.proofs.AllPlaces.{good-at, total-small, is-held, is-not-held}
 use borrow.Author.Needs.{needs}
 use Rattle.collector.proofs.copy.Statement.{statement}
 use Rattle.collector.proofs.copy.Tie as tie

@@ -5,7 +5,7 @@ use native.Mathlib.Omega.{arith}
 use borrow.Author.Tests.{not-true, not-false}
 use lib.ListN.{length, drop}
 use Rattle.laws.proofs.Elements.{length-mapped}
-use Rattle.collector.proofs.Laws.{good-bad, good-twin, good-next, good-end}
+use Rattle.collector.proofs.AllPlaces.{good-bad, good-twin, good-next, good-end}
 use Rattle.collector.specs.Collector.{good}
 use borrow.Author.Needs.{needs}
 use Rattle.collector.proofs.is_good.Statement.{statement}

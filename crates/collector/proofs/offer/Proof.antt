@@ -3,7 +3,7 @@ use mathlib.Core.Path.{_≡_, sym, ap, _∙_}
 use Prim.Native.Nat.{ℕ}
 use native.Mathlib.Omega.{arith}
 use borrow.Author.Tests.{not-true, not-false}
-use Rattle.collector.proofs.Laws.{offer-28, offer-heading, offer-taken}
+use Rattle.collector.proofs.Calls.{offer-28, offer-heading, offer-taken}
 use Rattle.collector.specs.Collector.{pieceWith, pieceOf, takenIn}
 use Rattle.frame.specs.Heading.{refusals, fieldsOf}
 use Rattle.frame.specs.declared.Heading.{Heading}

@@ -7,7 +7,8 @@ use lib.ListN.{length, getD}
 use Rattle.laws.proofs.Elements.{length-mapped}
 use Rattle.collector.specs.declared.Place.{Place}
 use Rattle.collector.specs.Places.{freed, blank}
-use Rattle.collector.proofs.Laws.{release-28, release-18, release-0, is-held, is-not-held}
+use Rattle.collector.proofs.Calls.{release-28, release-18, release-0}
+use Rattle.collector.proofs.AllPlaces.{is-held, is-not-held}
 use Rattle.collector.specs.Collector.{put}
 use borrow.Author.Needs.{needs}
 use Rattle.collector.proofs.release.Statement.{statement}

@@ -6,7 +6,7 @@ use lib.ListN.{length, getD}
 use Rattle.laws.proofs.Elements.{length-mapped}
 use Rattle.collector.specs.declared.Place.{Place}
 use Rattle.collector.specs.Places.{against, blank}
-use Rattle.collector.proofs.Laws.{all-held, some-free, is-held, is-not-held, take-held, take-against, take-free, take-full}
+use Rattle.collector.proofs.AllPlaces.{all-held, some-free, is-held, is-not-held, take-held, take-against, take-free, take-full}
 use Rattle.collector.specs.Collector.{indexOfFree, kept}
 use borrow.Author.Needs.{needs}
 use Rattle.collector.proofs.take_in.Statement.{statement}

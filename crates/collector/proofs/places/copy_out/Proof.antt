@@ -6,7 +6,7 @@ use Prim.Native.Nat.{ℕ}
 use native.Mathlib.Omega.{arith}
 use lib.ListN.{length, drop}
 use Rattle.collector.specs.Places.{state, whole}
-use Rattle.collector.proofs.Laws.{whole-is, not-whole, copy-18, copy-10, copy-0, within, size-here, taken-here}
+use Rattle.collector.proofs.OnePlace.{whole-is, not-whole, copy-18, copy-10, copy-0, within, size-here, taken-here}
 use borrow.Author.Needs.{needs}
 use Rattle.collector.proofs.places.copy_out.Statement.{statement}
 use Rattle.collector.proofs.places.copy_out.Tie as tie

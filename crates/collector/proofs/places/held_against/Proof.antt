@@ -1,7 +1,7 @@
 -- `collector::places::held_against` meets its contract. Assumes nothing.
 use mathlib.Core.Path.{sym, _∙_}
 use borrow.Author.Tests.{not-true, not-false}
-use Rattle.collector.proofs.Laws.{other-total, new-number, same-frame, other-bytes}
+use Rattle.collector.proofs.OnePlace.{other-total, new-number, same-frame, other-bytes}
 use borrow.Author.Needs.{needs}
 use Rattle.collector.proofs.places.held_against.Statement.{statement}
 use Rattle.collector.proofs.places.held_against.Tie as tie

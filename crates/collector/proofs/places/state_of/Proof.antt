@@ -1,7 +1,7 @@
 -- `collector::places::state_of` meets its contract. Assumes nothing.
 use mathlib.Core.Path.{sym, _∙_}
 use borrow.Author.Tests.{not-true, not-false}
-use Rattle.collector.proofs.Laws.{is-missing, is-whole, is-spoiled}
+use Rattle.collector.proofs.OnePlace.{is-missing, is-whole, is-spoiled}
 use borrow.Author.Needs.{needs}
 use Rattle.collector.proofs.places.state_of.Statement.{statement}
 use Rattle.collector.proofs.places.state_of.Tie as tie

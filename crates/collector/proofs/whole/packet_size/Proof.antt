@@ -1,5 +1,5 @@
 -- `collector::whole::packet_size` meets its contract. Assumes nothing.
-use Rattle.collector.proofs.Laws.{size-bytes}
+use Rattle.collector.proofs.Joined.{size-bytes}
 use mathlib.Core.Path.{_≡_, sym, ap₂, _∙_}
 use Prim.Native.Nat.{ℕ, _+_, _*_, _%_}
 use native.Mathlib.Omega.{arith}

@@ -1,5 +1,5 @@
 -- `collector::whole::passes` meets its contract. Assumes nothing.
-use Rattle.collector.proofs.Laws.{fill-is, size-least, size-most, check-is, too-short, too-long, other-check, by-fill}
+use Rattle.collector.proofs.Joined.{fill-is, size-least, size-most, check-is, too-short, too-long, other-check, by-fill}
 use mathlib.Core.Path.{sym, _∙_}
 use Prim.Native.Nat.{_+_}
 use native.Mathlib.Omega.{arith}

@@ -15,64 +15,64 @@ use Rattle.frame.specs.declared.Number.{Number}
 use Rattle.collector.specs.declared.Place.{Place}
 use Rattle.collector.specs.declared.Piece.{Piece}
 use Rattle.collector.specs.Places.{blank, isPair, marked, stored}
-use Rattle.order.specs.Held.{Four, fourAt, lookup}
+use Rattle.order.specs.Held.{Four, fourAt, heldPlace}
 use Rattle.order.specs.Given.{four}
 
 -- ---- the place of a pair, after a store
-pub lookup-yes : (l v : ℕ) (p : Place) (ps : List Place) → isPair l v p ≡ true → lookup l v (p ∷ ps) ≡ some p
-unfolding lookup
-lookup-yes l v p ps e = if-yes (some p) (lookup l v ps) e
+pub held-place-yes : (l v : ℕ) (p : Place) (ps : List Place) → isPair l v p ≡ true → heldPlace l v (p ∷ ps) ≡ some p
+unfolding heldPlace
+held-place-yes l v p ps e = if-yes (some p) (heldPlace l v ps) e
 
-pub lookup-no : (l v : ℕ) (p : Place) (ps : List Place) → isPair l v p ≡ false → lookup l v (p ∷ ps) ≡ lookup l v ps
-unfolding lookup
-lookup-no l v p ps e = if-no (some p) (lookup l v ps) e
+pub held-place-no : (l v : ℕ) (p : Place) (ps : List Place) → isPair l v p ≡ false → heldPlace l v (p ∷ ps) ≡ heldPlace l v ps
+unfolding heldPlace
+held-place-no l v p ps e = if-no (some p) (heldPlace l v ps) e
 
 module _ (l v : ℕ) where
-  pub lookup-found : (xs : List Place) → indexOf (isPair l v) xs < length xs → lookup l v xs ≡ some (getD xs (indexOf (isPair l v) xs) blank)
-  lookup-found [] h = absurd (not-suc-le-zero h)
-  lookup-found (x ∷ xs) h =
+  pub held-place-found : (xs : List Place) → indexOf (isPair l v) xs < length xs → heldPlace l v xs ≡ some (getD xs (indexOf (isPair l v) xs) blank)
+  held-place-found [] h = absurd (not-suc-le-zero h)
+  held-place-found (x ∷ xs) h =
       by-test (isPair l v x)
-      (λ e. rw (index-yes (isPair l v) x xs e) (lookup-yes l v x xs e))
+      (λ e. rw (index-yes (isPair l v) x xs e) (held-place-yes l v x xs e))
       (λ e.
       let w = index-no (isPair l v) x xs e in
-      rw w (lookup-no l v x xs e ∙ lookup-found xs (omega arith)))
+      rw w (held-place-no l v x xs e ∙ held-place-found xs (omega arith)))
 
-  pub lookup-missing : (xs : List Place) → length xs ≤ indexOf (isPair l v) xs → lookup l v xs ≡ none
-  unfolding lookup
-  lookup-missing [] h = refl
-  lookup-missing (x ∷ xs) h =
+  pub held-place-missing : (xs : List Place) → length xs ≤ indexOf (isPair l v) xs → heldPlace l v xs ≡ none
+  unfolding heldPlace
+  held-place-missing [] h = refl
+  held-place-missing (x ∷ xs) h =
       by-test (isPair l v x)
       (λ e. let w = index-yes (isPair l v) x xs e in absurd (omega arith))
-      (λ e. let w = index-no (isPair l v) x xs e in if-no (some x) (lookup l v xs) e ∙ lookup-missing xs (omega arith))
+      (λ e. let w = index-no (isPair l v) x xs e in if-no (some x) (heldPlace l v xs) e ∙ held-place-missing xs (omega arith))
 
   -- the first of the pair is replaced by another of the pair
-  pub lookup-hit : (xs : List Place) (i : ℕ) (q : Place) → i ≡ indexOf (isPair l v) xs → i < length xs → isPair l v q ≡ true → lookup l v (set xs i q) ≡ some q
-  lookup-hit [] i q e h t = absurd (not-suc-le-zero h)
-  lookup-hit (x ∷ xs) zero q e h t = lookup-yes l v q xs t
-  lookup-hit (x ∷ xs) (suc i) q e h t =
+  pub held-place-hit : (xs : List Place) (i : ℕ) (q : Place) → i ≡ indexOf (isPair l v) xs → i < length xs → isPair l v q ≡ true → heldPlace l v (set xs i q) ≡ some q
+  held-place-hit [] i q e h t = absurd (not-suc-le-zero h)
+  held-place-hit (x ∷ xs) zero q e h t = held-place-yes l v q xs t
+  held-place-hit (x ∷ xs) (suc i) q e h t =
       by-test (isPair l v x)
       (λ y. let w = index-yes (isPair l v) x xs y in absurd (omega arith))
       (λ y.
       let w = index-no (isPair l v) x xs y in
-      lookup-no l v x (set xs i q) y ∙ lookup-hit xs i q (omega arith) (le-of-suc-le-suc h) t)
+      held-place-no l v x (set xs i q) y ∙ held-place-hit xs i q (omega arith) (le-of-suc-le-suc h) t)
 
   -- a place is taken for a pair that is not held
-  pub lookup-new : (xs : List Place) (i : ℕ) (q : Place) → length xs ≤ indexOf (isPair l v) xs → i < length xs → isPair l v q ≡ true → lookup l v (set xs i q) ≡ some q
-  lookup-new [] i q n h t = absurd (not-suc-le-zero h)
-  lookup-new (x ∷ xs) zero q n h t = lookup-yes l v q xs t
-  lookup-new (x ∷ xs) (suc i) q n h t =
+  pub held-place-new : (xs : List Place) (i : ℕ) (q : Place) → length xs ≤ indexOf (isPair l v) xs → i < length xs → isPair l v q ≡ true → heldPlace l v (set xs i q) ≡ some q
+  held-place-new [] i q n h t = absurd (not-suc-le-zero h)
+  held-place-new (x ∷ xs) zero q n h t = held-place-yes l v q xs t
+  held-place-new (x ∷ xs) (suc i) q n h t =
       by-test (isPair l v x)
       (λ y. let w = index-yes (isPair l v) x xs y in absurd (omega arith))
       (λ y.
       let w = index-no (isPair l v) x xs y in
-      lookup-no l v x (set xs i q) y ∙ lookup-new xs i q (omega arith) (le-of-suc-le-suc h) t)
+      held-place-no l v x (set xs i q) y ∙ held-place-new xs i q (omega arith) (le-of-suc-le-suc h) t)
 
   -- a store of another pair
-  pub lookup-miss : (xs : List Place) (i : ℕ) (q : Place) → i < length xs → isPair l v (getD xs i blank) ≡ false → isPair l v q ≡ false → lookup l v (set xs i q) ≡ lookup l v xs
-  unfolding lookup
-  lookup-miss [] i q h a b = absurd (not-suc-le-zero h)
-  lookup-miss (x ∷ xs) zero q h a b = if-no (some q) (lookup l v xs) b ∙ sym (if-no (some x) (lookup l v xs) a)
-  lookup-miss (x ∷ xs) (suc i) q h a b = ap (cond (isPair l v x) (some x)) (lookup-miss xs i q (le-of-suc-le-suc h) a b)
+  pub held-place-miss : (xs : List Place) (i : ℕ) (q : Place) → i < length xs → isPair l v (getD xs i blank) ≡ false → isPair l v q ≡ false → heldPlace l v (set xs i q) ≡ heldPlace l v xs
+  unfolding heldPlace
+  held-place-miss [] i q h a b = absurd (not-suc-le-zero h)
+  held-place-miss (x ∷ xs) zero q h a b = if-no (some q) (heldPlace l v xs) b ∙ sym (if-no (some x) (heldPlace l v xs) a)
+  held-place-miss (x ∷ xs) (suc i) q h a b = ap (cond (isPair l v x) (some x)) (held-place-miss xs i q (le-of-suc-le-suc h) a b)
 
 -- ---- what a place holds, after a store
 pub four-same : {s t : Bool} {a a′ b b′ c c′ d d′ : ℕ} → s ≡ t → a ≡ a′ → b ≡ b′ → c ≡ c′ → d ≡ d′
