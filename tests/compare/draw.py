@@ -1,4 +1,4 @@
-"""Packets, fields and records to try reader and writers with. The same seed draws the same record."""
+"""Packets, fields and records to try reader and writers with, drawn at random. The same seed draws the same record."""
 import random
 
 from model.packet import DIGITS, NAMES, Fields
@@ -212,35 +212,3 @@ def sent_record(rng):
 
 def drawn(kind, seed):
     return {"P": read_record, "W": written_record, "A": sent_record}[kind](random.Random("%s %d" % (kind, seed)))
-
-
-# Records that are listed, not drawn.
-
-
-def listed():
-    """Each day of each month near its end in years of each kind; each type with the same bytes; each count of codes; each length on air."""
-    rng = random.Random(0)
-    f, codes, body = fields(rng, 3)
-    f, codes = f._replace(count=0), []
-    for year in YEARS:
-        for month in range(14):
-            for day in (0, 1, 28, 29, 30, 31, 32):
-                c = ("clock", year, month, day, *rng.choice(((0, 0, 0), (23, 59, 59))))
-                yield records.writing(f._replace(content=c), [], [], 250)
-                p = bytearray(write(f, [], [], 250)[1])
-                p[3:7] = year.to_bytes(2, "big") + bytes((month, day))
-                yield records.reading(bytes(p))
-    p = bytearray(write(f, [], [], 250)[1])
-    for t in range(32):
-        p[0] = t << 3
-        yield records.reading(bytes(p))
-    for t in NAMES:
-        for n in range(17):
-            f, codes, body = fields(rng, t)
-            f, codes = f._replace(count=n), digits(rng, 23 * n)
-            yield records.writing(f, codes, body, 250)
-            answer, packed = write(f, codes, body, 250)
-            yield records.reading(packed)
-    for size in range(252):
-        p = mended(bytearray(rng.randbytes(size)))
-        yield records.sending(bytes(p), rng.randrange(1, 7), rng.randrange(32), 832)

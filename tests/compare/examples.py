@@ -4,6 +4,8 @@
 """
 import sys
 
+from model.checks import packet_check
+from model.on_air import on_air
 from model.packet import Fields
 from model.writer import write
 
@@ -37,6 +39,12 @@ def some():
     yield records.writing(text, CODE, list(story[1:]), 250)
     yield records.sending(packet(hold), 5, 3, 819)
     yield records.sending(packet(hold), 7, 3, 819)
+    least = b"\xa8\x00"
+    air = on_air(least, 5, 3, 13)[2]
+    yield from (b"N", records.receiving(air, 320), records.receiving(air, 319), records.receiving(b"", 320))
+    frame = b"\xa3\x04\xb0\x00" + least + packet_check(least).to_bytes(2, "big")
+    yield from (records.offering(frame), records.offering(frame), records.offering(frame[:7]))
+    yield from (records.copying(5, 3, 2), records.copying(5, 3, 1), records.releasing(5, 3), records.releasing(5, 3))
     yield b"P"
 
 

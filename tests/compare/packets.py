@@ -1,8 +1,9 @@
-"""Holds run/packets to the model: reader, packet writer and on-air writer on listed and on seeded records.
+"""Holds run/packets to the model: every function of the proved crates, on listed and on seeded inputs. An input is a record that asks
+once, or a run of records from a new beginning.
 
-  python3 -m compare.packets COUNT      COUNT records of each kind are drawn; run it in tests/
+  python3 -m compare.packets COUNT      COUNT records for each writer and for the reader, and a fifth as many runs; run it in tests/
 
-At a difference it looks for the smallest record that still differs, prints it and stops.
+At a difference it looks for the smallest input that still differs, prints it and stops.
 """
 import collections
 import subprocess
@@ -10,11 +11,12 @@ import sys
 
 from model.packet import NAMES
 
-from . import draw, records, smaller
+from . import draw, listed, records, runs, smaller
 
 # The answers that paper 01 lists for each function. None of them may be missing from what was drawn.
 ANSWERS = {"read": (0, 20, 23, 24, 25, 26, 27), "text": (0, 20, 23, 24, 25, 26, 27), "write": (0, 10, 20, 23, 25, 26, 27),
-           "air": (0, 10, 13, 20, 27)}
+           "air": (0, 10, 13, 20, 27), "receive": (0, 10, 11), "offer": (0, 1, 2, 12, 13, 14, 15, 16, 17, 26), "release": (0, 18),
+           "copy": (0, 10, 18)}
 ROOM = 65536  # the program reads as much at once
 
 
@@ -23,47 +25,49 @@ def run(data):
     return r.stdout.decode() if r.returncode == 0 else "ended with status %d\n" % r.returncode
 
 
-def batches(some):
+def batches(inputs):
     batch, size = [], 0
-    for record in some:
-        if size + len(record) > ROOM:
+    for data in inputs:
+        if size + len(data) > ROOM:
             yield batch
             batch, size = [], 0
-        batch.append(record)
-        size += len(record)
+        batch.append(data)
+        size += len(data)
     if batch:
         yield batch
 
 
 def differing_of(batch):
-    """Those records of a batch of which program and model print different lines."""
-    given = run(b"".join(batch)).split("\n\n")
-    due = ["\n".join(records.lines(record)) for record in batch] + [""]
-    if len(given) == len(due):
-        return [record for record, g, d in zip(batch, given, due) if g != d]
+    """Those inputs of a batch of which program and model print different lines."""
+    given = run(b"".join(batch)).split("\n\n")[:-1]
+    due = [records.blocks(data) for data in batch]
+    if len(given) == sum(map(len, due)):
+        given = iter(given)
+        return [data for data, some in zip(batch, due) if [next(given) for _ in some] != some]
     if len(batch) < 2:
         return batch
     middle = len(batch) // 2
     return differing_of(batch[:middle]) + differing_of(batch[middle:])
 
 
-def differing(some):
-    return [record for batch in batches(some) for record in differing_of(batch)]
+def differing(inputs):
+    return [data for batch in batches(inputs) for data in differing_of(batch)]
 
 
-def count(seen, record):
-    """Which answers were drawn, which types were read and written, with how many codes."""
-    lines = records.lines(record)
-    for line in lines:
-        words = line.split()
-        if words[0] in ANSWERS and (words[0] != "write" or record[:1] == b"W"):
-            seen[words[0], int(words[1])] += 1
-    if lines[0] == "read 0":
-        seen["type read", int(lines[1].split()[1])] += 1
-        seen["codes read", int(lines[2].split()[1])] += 1
-        seen["size read", len(record) - 3] += 1
-    if record[:1] == b"W" and lines[0].startswith("write 0"):
-        seen["type written", record[1]] += 1
+def count(seen, data):
+    """Which answers were drawn; which types were read and written, with how many codes and of what size."""
+    for record, block in zip(records.split(data)[0], records.blocks(data)):
+        lines = block.split("\n")
+        words = [line.split() for line in lines]
+        for word in words:
+            if word[0] in ANSWERS and (word[0] != "write" or record[:1] == b"W"):
+                seen[word[0], int(word[1])] += 1
+        if lines[0] == "read 0":
+            seen["type read", int(words[1][1])] += 1
+            seen["codes read", int(words[2][1])] += 1
+            seen["size read", len(record) - 3] += 1
+        if record[:1] == b"W" and lines[0].startswith("write 0"):
+            seen["type written", record[1]] += 1
 
 
 def missing(seen):
@@ -73,27 +77,27 @@ def missing(seen):
     return [w for w in wanted if not seen[w]]
 
 
-def compare(some):
-    seen, total = collections.Counter(), 0
-    for batch in batches(some):
-        for record in differing_of(batch)[:1]:
-            least = smaller.record(record, differing)
-            sys.exit("packets differs from the model; the smallest record found, in hex:\n%s\npackets:\n%smodel:\n%s"
-                     % (least.hex(" "), run(least), records.printed(least)))
-        for record in batch:
-            count(seen, record)
-        total += len(batch)
-    return seen, total
+def compare(inputs):
+    seen = collections.Counter()
+    for batch in batches(inputs):
+        for data in differing_of(batch)[:1]:
+            least = smaller.records(data, differing)
+            sys.exit("packets differs from the model; the smallest input found:\n%s\nin hex: %s\npackets:\n%smodel:\n%s"
+                     % (records.said(least), least.hex(" "), run(least), records.printed(least)))
+        for data in batch:
+            count(seen, data)
+    return seen
 
 
 def main(n):
-    some = [*draw.listed(), *(draw.drawn(kind, seed) for kind in "PWA" for seed in range(n))]
-    seen, total = compare(some)
+    single = [*listed.everything(), *(draw.drawn(kind, seed) for kind in "PWA" for seed in range(n))]
+    several = [runs.drawn(seed) for seed in range(n // 5)]
+    seen = compare(single + several)
     if missing(seen):
-        sys.exit("the records never drew: %s" % missing(seen))
+        sys.exit("never drawn: %s" % missing(seen))
     for f in ANSWERS:
         print("%s: %s" % (f, ", ".join("%d times %d" % (seen[f, a], a) for a in ANSWERS[f])))
-    print("packets agrees with the model on %d records" % total)
+    print("packets agrees with the model on %d records and %d runs of records" % (len(single), len(several)))
 
 
 if __name__ == "__main__":

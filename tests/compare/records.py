@@ -1,6 +1,8 @@
 """Records of the program packets, and what it should print of them. All numbers are written high byte first."""
 from model import on_air, reader, writer
+from model.collector import Collector
 from model.packet import Fields
+from model.receiver import Receiver
 
 CONTENTS = ("raw", "frequencies", "address", "keep", "clock", "reset", "factory", "drill", "text", "command", "hold")
 LONG = {"frequencies": 0, "address": 0, "keep": 1, "clock": 0, "text": 2, "command": 0}  # which number of the content has two bytes
@@ -27,16 +29,36 @@ def sending(packet, level, version, room):
     return b"A" + bytes((level, version)) + two(room) + two(len(packet)) + packet
 
 
+def receiving(delivery, room):
+    return b"R" + two(room) + two(len(delivery)) + delivery
+
+
+def offering(frame):
+    return b"O" + two(len(frame)) + frame
+
+
+def releasing(level, version):
+    return b"F" + bytes((level, version))
+
+
+def copying(level, version, room):
+    return b"C" + bytes((level, version)) + two(room)
+
+
+HEADS = {b"P": 3, b"W": 133, b"A": 7, b"R": 5, b"O": 3, b"F": 3, b"C": 5, b"N": 1}
+
+
 def number(b, i):
     return int.from_bytes(b[i : i + 2], "big")
 
 
 def length(b):
     """How long the record is that begins here; 0 where none does."""
-    head = {b"P": 3, b"W": 133, b"A": 7}.get(b[:1], 0)
+    letter = b[:1]
+    head = HEADS.get(letter, 0)
     if head == 0 or len(b) < head:
         return 0
-    whole = head + number(b, head - 2) + (number(b, 129) if head == 133 else 0)
+    whole = head + (0 if letter in b"FCN" else number(b, head - 2)) + (number(b, 129) if letter == b"W" else 0)
     return whole if whole <= len(b) else 0
 
 
@@ -81,16 +103,63 @@ def read_lines(packet):
     return lines + written(*writer.write(f, codes, entries or list(body), 250)) if answer == 0 else lines
 
 
-def lines(record):
-    if record[:1] == b"P":
-        return read_lines(record[3:])
-    if record[:1] == b"W":
-        return written(*writer.write(*fields_of(record)))
-    answer, frames, air = on_air.on_air(record[7:], record[1], record[2], min(number(record, 3), 832))
-    return ["air %d %d %s" % (answer, frames, hexed(air)), "the rest as it was"]
+class Program:
+    """The program: what it prints of a record, with the receiver and the collector that the records before have left."""
+
+    def __init__(self):
+        self.receiver, self.collector = Receiver(), Collector()
+
+    def lines(self, record):
+        letter = record[:1]
+        if letter == b"P":
+            return read_lines(record[3:])
+        if letter == b"W":
+            return written(*writer.write(*fields_of(record)))
+        if letter == b"A":
+            answer, frames, air = on_air.on_air(record[7:], record[1], record[2], min(number(record, 3), 832))
+            return ["air %d %d %s" % (answer, frames, hexed(air)), "the rest as it was"]
+        if letter == b"R":
+            answer, frames = self.receiver.receive(record[5:], min(number(record, 1), 400))
+            return ["receive %d %d %s" % (answer, len(frames), hexed(b"".join(frames))), "the rest as it was"]
+        if letter == b"O":
+            return ["offer %d" % self.collector.offer(record[3:])]
+        if letter == b"F":
+            return ["release %d" % self.collector.release(record[1], record[2])]
+        if letter == b"C":
+            answer, packet = self.collector.copy(record[1], record[2], min(number(record, 3), 300))
+            return ["copy %d %s" % (answer, hexed(packet)), "the rest as it was"]
+        self.__init__()
+        return ["new"]
+
+
+def blocks(data):
+    """The lines of each record, and those behind the last."""
+    program, (some, left) = Program(), split(data)
+    return ["\n".join(program.lines(record)) for record in some] + (["no whole record"] if left else [])
 
 
 def printed(data):
     """All that the program prints of its input."""
-    some, left = split(data)
-    return "".join("\n".join(lines(r)) + "\n\n" for r in some) + ("no whole record\n" if left else "")
+    return "".join(b + ("\n" if b == "no whole record" else "\n\n") for b in blocks(data))
+
+
+def said(data):
+    """What records ask, for a person."""
+    return "\n".join(map(said_of, split(data)[0]))
+
+
+def said_of(record):
+    letter = record[:1]
+    if letter == b"W":
+        return "write %s, codes %s, body %s, into %d bytes" % fields_of(record)
+    if letter == b"P":
+        return "read the packet " + hexed(record[3:])
+    if letter == b"A":
+        return "on air, level %d, version %d, into %d bytes, the packet %s" % (record[1], record[2], number(record, 3), hexed(record[7:]))
+    if letter == b"R":
+        return "receive, into %d bytes, %s" % (number(record, 1), hexed(record[5:]))
+    if letter == b"O":
+        return "offer " + hexed(record[3:])
+    if letter == b"N":
+        return "begin anew"
+    return ("release" if letter == b"F" else "copy into %d bytes" % number(record, 3)) + " level %d, version %d" % (record[1], record[2])

@@ -1,8 +1,9 @@
 """Looks for a smaller input that still differs: large parts first, then single bytes."""
+from model.packet import NAMES
 from model.writer import COUNTED
 
 from .draw import mended
-from .records import CONTENTS, number, two
+from .records import CONTENTS, HEADS, number, reading, split, two
 
 
 def air(data, differs):
@@ -36,18 +37,33 @@ def packets(record, head, size):
             yield record[: head - 2] + two(len(q)) + q
 
 
+def counted(packet, size):
+    """A packet that loses codes, or what its content's count counts, and says so."""
+    if len(packet) < 77 or len(packet) < 77 + 12 * packet[2]:
+        return
+    name, start = NAMES.get(packet[0] >> 3), 3 + 12 * packet[2]
+    places = [(2, 3 + 12 * k, 12) for k in range(packet[2])]
+    if name in COUNTED:
+        at = start + (19 if name == "text" else 0)
+        unit = 5 if name == "frequencies" else 1
+        places += [(at, at + 1 + unit * k, unit) for k in range(packet[at])]
+    for at, first, unit in places:
+        if size <= packet[at]:
+            less = bytearray(packet[:first] + packet[first + unit * size :])
+            less[at] -= size
+            yield bytes(mended(less))
+
+
 def fields(record, size):
     """A record of fields that loses codes, or what its count counts."""
     codes, body = record[133 : 133 + number(record, 129)], record[133 + number(record, 129) :]
-    name = CONTENTS[record[4]] if record[4] < len(CONTENTS) else "raw"
+    unit = COUNTED.get(CONTENTS[record[4]] if record[4] < len(CONTENTS) else "raw", 1)
     n, k = number(record, 2), number(record, 5)
     if size <= n:
-        codes_less = codes[23 * size :]
-        yield record[:2] + two(n - size) + record[4:129] + two(len(codes_less)) + record[131:133] + codes_less + body
-    unit = COUNTED.get(name, 1)
-    if unit * size <= len(body):
-        for fewer in ({k, k - size} if size <= k else {k}):
-            less = body[unit * size :]
+        for less in without(codes, 23 * size):
+            yield record[:2] + two(n - size) + record[4:129] + two(len(less)) + record[131:133] + less + body
+    for less in without(body, unit * size):
+        for fewer in (k, max(0, k - size)):
             yield record[:5] + two(fewer) + record[7:131] + two(len(less)) + codes + less
 
 
@@ -58,20 +74,44 @@ def key(record):
 
 def tries(record, size):
     """Records with a part of so many bytes, or of so many counted things, left out or zero; lengths are never set to zero."""
-    if record[:1] == b"W":
+    letter = record[:1]
+    if letter == b"W":
         return [*fields(record, size), *zeroed(record, 1, 127, size), *zeroed(record, 133, len(record), size)]
-    if record[:1] == b"A":
-        return [*packets(record, 7, size), *zeroed(record, 1, 5, size), *zeroed(record, 7, len(record), size)]
-    return [*packets(record, 3, size), *zeroed(record, 3, len(record), size)]
+    if letter in (b"A", b"R"):
+        head = HEADS[letter]
+        return [*packets(record, head, size), *zeroed(record, 1, head - 2, size), *zeroed(record, head, len(record), size)]
+    if letter == b"P":
+        return [*packets(record, 3, size), *map(reading, counted(record[3:], size)), *zeroed(record, 3, len(record), size)]
+    return zeroed(record, {b"O": 3}.get(letter, 1), len(record), size)
 
 
-def record(least, differing):
-    """The smallest record found; differing says which of some records differ."""
-    size = len(least)
+def fewer(some, differing):
+    """Records left out, many at a time first; the first stays."""
+    size = len(some)
     while size:
-        better = sorted(differing([t for t in tries(least, size) if key(t) < key(least)]), key=key)
-        if better:
-            least = better[0]
-        else:
-            size //= 2
-    return least
+        at = 1
+        while at < len(some):
+            less = some[:at] + some[at + size :]
+            if differing([b"".join(less)]):
+                some = less
+            else:
+                at += size
+        size //= 2
+    return some
+
+
+def records(data, differing):
+    """The smallest input found; differing says which of some inputs differ."""
+    some = fewer(split(data)[0], differing)
+    for k in range(len(some) - 1, -1, -1):
+        size = len(some[k])
+        while size:
+            smaller = [t for t in tries(some[k], size) if key(t) < key(some[k])]
+            before, behind = b"".join(some[:k]), b"".join(some[k + 1 :])
+            better = set(differing([before + t + behind for t in smaller]))
+            better = sorted((t for t in smaller if before + t + behind in better), key=key)
+            if better:
+                some[k] = better[0]
+            else:
+                size //= 2
+    return b"".join(some)

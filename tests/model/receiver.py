@@ -23,7 +23,11 @@ class Receiver:
         frame, self.words = self.words, b""
         return frame
 
-    def receive(self, delivery):
-        """The frames of a delivery, in order."""
+    def receive(self, delivery, room):
+        """The answer and the frames of a delivery, in order. A 41st frame cannot come: 512 bytes have 4096 bits, and 40 frames 4160."""
+        if len(delivery) > 512:
+            return 11, []
+        if room < 320:
+            return 10, []
         bits = (byte >> i & 1 for byte in delivery for i in range(7, -1, -1))
-        return [frame for frame in map(self.bit, bits) if frame is not None]
+        return 0, [frame for frame in map(self.bit, bits) if frame is not None]

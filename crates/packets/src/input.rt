@@ -9,6 +9,15 @@ pub(crate) fn least(n: usize, m: usize) -> usize
     if n < m { n } else { m }
 }
 
+// The length of a record of two parts; 0 where there is less.
+pub(crate) fn whole(b: &[u8], head: usize, rest: usize) -> usize
+    requires { ⌜ (head ≤ 1000) × (rest ≤ 150000) ⌝ }
+    ensures { λ r. ⌜ r ≤ 200000 ⌝ }
+{
+    let n = head + rest;
+    if n <= b.len() { n } else { 0 }
+}
+
 pub(crate) fn byte(b: &[u8], i: usize) -> u8 {
     if i < b.len() { b[i] } else { 0 }
 }
@@ -25,6 +34,20 @@ pub(crate) fn four(b: &[u8], i: usize) -> u32
     requires { ⌜ i ≤ 900 ⌝ }
 {
     two(b, i) as u32 * 65536 + two(b, i + 2) as u32
+}
+
+// k bytes from a byte on; as many as there are.
+pub(crate) fn part(b: &[u8], from: usize, k: usize) -> &[u8] {
+    let p = b.len();
+    if p <= from {
+        return &b[0..0];
+    }
+    if k < p - from {
+        let e = from + k;
+        &b[from..e]
+    } else {
+        &b[from..p]
+    }
 }
 
 // Copies bytes until the output is full; zeros where there are no more.

@@ -1,7 +1,9 @@
-// Asks the packet reader, the packet writer and the on-air writer what records on standard input name, and prints what they give as
-// lines of text, an empty one behind each record. A record begins with a letter: P reads a packet, W writes fields, A puts a packet on air; each module says what
-// follows. All numbers are given high byte first. The input is as much as is read at once, 65536 bytes.
+// Asks the proved functions what records on standard input name, and prints what they give as lines of text, an empty one behind each
+// record. A record begins with a letter: P reads a packet, W writes fields, A puts a packet on air; R gives a delivery to the receiver,
+// O a frame to the collector, F releases a pair, C copies its packet, N begins with a fresh receiver and an empty collector. The modules
+// say what follows a letter. All numbers are given high byte first. The input is as much as is read at once, 65536 bytes.
 mod input;
+mod keeping;
 mod reading;
 mod say;
 mod sending;
@@ -10,30 +12,53 @@ mod writing;
 ghost use Prim.Native.Nat.{_≤_};
 use libc::STDIN_FILENO;
 
-// The record that begins a list: how long it is, or 0 where nothing behind it can be made out.
-fn record(b: &[u8]) -> usize
+// How long the record is that begins a list; 0 where none does, or only a part of one.
+fn length_of(b: &[u8]) -> usize
     ensures { λ r. ⌜ r ≤ 200000 ⌝ }
 {
+    match input::byte(b, 0) {
+        b'P' => input::whole(b, 3, input::two(b, 1) as usize),
+        b'W' => input::whole(
+            b,
+            133,
+            input::two(b, 129) as usize + input::two(b, 131) as usize,
+        ),
+        b'A' => input::whole(b, 7, input::two(b, 5) as usize),
+        b'R' => input::whole(b, 5, input::two(b, 3) as usize),
+        b'O' => input::whole(b, 3, input::two(b, 1) as usize),
+        b'F' => input::whole(b, 3, 0),
+        b'C' => input::whole(b, 5, 0),
+        b'N' => 1,
+        _ => 0,
+    }
+}
+
+// The records that ask once and leave nothing; and a word for a new beginning.
+fn asked(b: &[u8]) {
     match input::byte(b, 0) {
         b'P' => reading::record(b),
         b'W' => writing::record(b),
         b'A' => sending::record(b),
-        _ => 0,
+        b'N' => say::text(b"new\n"),
+        _ => (),
     }
 }
 
 fn main() {
     let mut records = io::large_buffer();
     let n = io::read_full(STDIN_FILENO, &mut records);
-    let all = format::part(&records, 0, n);
+    let all = input::part(&records, 0, n);
     let end = input::least(all.len(), 65536);
+    let mut kept = keeping::begin();
     let mut i: usize = 0;
     while i < end {
-        let length = record(format::part(all, i, 65536));
+        let length = length_of(input::part(all, i, 65536));
         if length == 0 {
             say::text(b"no whole record\n");
             return;
         }
+        asked(input::part(all, i, length));
+        kept = keeping::after(kept, input::part(all, i, length));
         say::text(b"\n");
         i += length;
     }

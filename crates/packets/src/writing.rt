@@ -2,7 +2,6 @@
 // Behind the letter stand, by the index of their first byte: 1 type; 2 count of codes; 4 content, 0 to 10 in the order below, and raw above;
 // 5 a number of two bytes and 7 five of one byte, those of the content; 12 its 35 digits; 47 time; 51 certificate; 63 signature;
 // 127 the length of the memory lent, at most 300; 129 the length of the codes; 131 that of the body; 133 the codes, and behind them the body.
-ghost use Prim.Native.Nat.{_≤_};
 use crate::input;
 use crate::say;
 use packet::Content;
@@ -52,9 +51,9 @@ fn fields(b: &[u8]) -> Fields {
     let mut digits = [0u8; 35];
     let mut certificate = [0u8; 12];
     let mut signature = [0u8; 64];
-    input::fill(format::part(b, 12, 35), &mut digits);
-    input::fill(format::part(b, 51, 12), &mut certificate);
-    input::fill(format::part(b, 63, 64), &mut signature);
+    input::fill(input::part(b, 12, 35), &mut digits);
+    input::fill(input::part(b, 51, 12), &mut certificate);
+    input::fill(input::part(b, 63, 64), &mut signature);
     let c = content(b);
     Fields {
         kind: input::byte(b, 1),
@@ -75,21 +74,14 @@ fn written(f: Fields, codes: &[u8], body: &[u8], n: usize, memory: &mut [u8]) {
     say::memory(memory, w.length);
 }
 
-// The record's length, or 0 where it is cut short.
-pub(crate) fn record(b: &[u8]) -> usize
-    ensures { λ r. ⌜ r ≤ 200000 ⌝ }
-{
+// A whole record.
+pub(crate) fn record(b: &[u8]) {
     let n = input::two(b, 129) as usize;
-    let k = input::two(b, 131) as usize;
-    if b.len() < 133 + n + k {
-        return 0;
-    }
     written(
         fields(b),
-        format::part(b, 133, n),
-        format::part(b, 133 + n, k),
+        input::part(b, 133, n),
+        input::part(b, 133 + n, 65536),
         input::two(b, 127) as usize,
         &mut [0xEEu8; 300],
     );
-    133 + n + k
 }

@@ -5,10 +5,10 @@ use Rattle.packets.proofs.main.Statement.{statement}
 use Rattle.packets.proofs.main.Tie as tie
 
 abbrev Inv-loop : tie.InvT-loop
-Inv-loop n all end i₀ t7 t8 i = i ≤ 300000
+Inv-loop n all end kept₀ i₀ t8 t9 kept i = i ≤ 300000
 
 abbrev μ-loop : tie.MeasureT-loop
-μ-loop n all end i₀ t7 t8 i = end - i
+μ-loop n all end kept₀ i₀ t8 t9 kept i = end - i
 
 large-buffer-requires : tie.Need-large-buffer-requires Inv-loop μ-loop
 large-buffer-requires c κs = search needs
@@ -28,14 +28,17 @@ part-requires c κs = search needs
 least-requires : tie.Need-least-requires Inv-loop μ-loop
 least-requires c κs = search needs
 
+begin-requires : tie.Need-begin-requires Inv-loop μ-loop
+begin-requires c κs = search needs
+
 loop-holds : tie.Need-loop-holds Inv-loop μ-loop
 loop-holds c = search needs
 
 part-requires-2 : tie.Need-part-requires-2 Inv-loop μ-loop
 part-requires-2 c κs = search needs
 
-record-requires : tie.Need-record-requires Inv-loop μ-loop
-record-requires c κs = search needs
+length-of-requires : tie.Need-length-of-requires Inv-loop μ-loop
+length-of-requires c κs = search needs
 
 slice-aggregate-text : tie.Need-slice-aggregate-text Inv-loop μ-loop
 slice-aggregate-text c = search needs
@@ -45,6 +48,18 @@ text-requires c κs = search needs
 
 returns : tie.Need-returns Inv-loop μ-loop
 returns c = search needs
+
+part-requires-3 : tie.Need-part-requires-3 Inv-loop μ-loop
+part-requires-3 c κs = search needs
+
+asked-requires : tie.Need-asked-requires Inv-loop μ-loop
+asked-requires c κs = search needs
+
+part-requires-4 : tie.Need-part-requires-4 Inv-loop μ-loop
+part-requires-4 c κs = search needs
+
+after-requires : tie.Need-after-requires Inv-loop μ-loop
+after-requires c κs = search needs
 
 slice-aggregate-text-2 : tie.Need-slice-aggregate-text-2 Inv-loop μ-loop
 slice-aggregate-text-2 c = search needs
@@ -76,12 +91,17 @@ main-spec =
     slice-aggregate-part
     part-requires
     least-requires
+    begin-requires
     loop-holds
     part-requires-2
-    record-requires
+    length-of-requires
     slice-aggregate-text
     text-requires
     returns
+    part-requires-3
+    asked-requires
+    part-requires-4
+    after-requires
     slice-aggregate-text-2
     text-requires-2
     add-i

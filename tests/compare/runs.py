@@ -1,0 +1,39 @@
+"""Runs of records for receiver and collector, each from a new beginning. The same seed draws the same run."""
+import random
+
+from . import streams
+from .records import copying, offering, receiving, releasing
+
+
+def deliveries(rng):
+    """A stream cut into deliveries at any places; some are too long or have too short an output, and are given once more."""
+    data = streams.stream(rng.randrange(1 << 30))[1][:3000]
+    while data:
+        size = rng.choice((0, 1, 2, 13, 26, 100, 511, 512, 512, 513, 600, rng.randrange(513)))
+        room = rng.choice((320, 320, 320, 321, 400, 319, 0))
+        yield receiving(data[:size], room)
+        if size <= 512 and room >= 320:
+            data = data[size:]
+
+
+def frames(rng):
+    """Frames of some packets, with copies and releases among them."""
+    sent = streams.traffic(rng)
+    if rng.randrange(2):
+        rng.shuffle(sent)
+    sent = sent[: rng.choice((len(sent), rng.randrange(1, len(sent) + 1)))]
+    pairs = [(f[0] >> 5, f[0] & 31) for f in sent] + [(0, 0), (7, 31), (200, 3), (5, 32)]
+    for f in sent:
+        yield offering(f if rng.randrange(40) else rng.choice((f[:7], f + b"\0", b"")))
+        if rng.randrange(12) == 0:
+            yield copying(*rng.choice(pairs), rng.choice((300, 250, 249, 0, rng.randrange(300))))
+        if rng.randrange(60) == 0:
+            yield releasing(*rng.choice(pairs))
+    for level, version in set(pairs):
+        size = rng.choice((2, 3, 5, 8, 30, 77, 78, 79, 250))
+        yield from (copying(level, version, size - 1), copying(level, version, size), copying(level, version, 300), releasing(level, version))
+
+
+def drawn(seed):
+    rng = random.Random("run %d" % seed)
+    return b"N" + b"".join(deliveries(rng) if seed % 2 else frames(rng))
