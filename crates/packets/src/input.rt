@@ -36,20 +36,6 @@ pub(crate) fn four(b: &[u8], i: usize) -> u32
     two(b, i) as u32 * 65536 + two(b, i + 2) as u32
 }
 
-// k bytes from a byte on; as many as there are.
-pub(crate) fn part(b: &[u8], from: usize, k: usize) -> &[u8] {
-    let p = b.len();
-    if p <= from {
-        return &b[0..0];
-    }
-    if k < p - from {
-        let e = from + k;
-        &b[from..e]
-    } else {
-        &b[from..p]
-    }
-}
-
 // Copies bytes until the output is full; zeros where there are no more.
 pub(crate) fn fill(b: &[u8], out: &mut [u8])
     ensures { λ _. ⌜ length (now (out .exit)) ≡ length (now (out .entry)) ⌝ }

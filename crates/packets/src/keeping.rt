@@ -61,7 +61,7 @@ fn receiver_after(r: Receiver, b: &[u8]) -> Receiver {
     match input::byte(b, 0) {
         b'R' => received(
             r,
-            input::part(b, 5, 65536),
+            format::part(b, 5, 65536),
             input::two(b, 1) as usize,
             &mut [0xEEu8; 400],
         ),
@@ -73,7 +73,7 @@ fn receiver_after(r: Receiver, b: &[u8]) -> Receiver {
 // The collector behind a record.
 fn collector_after(c: Collector, b: &[u8]) -> Collector {
     match input::byte(b, 0) {
-        b'O' => offered(c, input::part(b, 3, 65536)),
+        b'O' => offered(c, format::part(b, 3, 65536)),
         b'F' => released(c, input::byte(b, 1), input::byte(b, 2)),
         b'C' => {
             copied(

@@ -47,18 +47,18 @@ fn asked(b: &[u8]) {
 fn main() {
     let mut records = io::large_buffer();
     let n = io::read_full(STDIN_FILENO, &mut records);
-    let all = input::part(&records, 0, n);
+    let all = format::part(&records, 0, n);
     let end = input::least(all.len(), 65536);
     let mut kept = keeping::begin();
     let mut i: usize = 0;
     while i < end {
-        let length = length_of(input::part(all, i, 65536));
+        let length = length_of(format::part(all, i, 65536));
         if length == 0 {
             say::text(b"no whole record\n");
             return;
         }
-        asked(input::part(all, i, length));
-        kept = keeping::after(kept, input::part(all, i, length));
+        asked(format::part(all, i, length));
+        kept = keeping::after(kept, format::part(all, i, length));
         say::text(b"\n");
         i += length;
     }

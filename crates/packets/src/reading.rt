@@ -1,6 +1,5 @@
 // P, the length of a packet in two bytes, the packet: what the reader says of it, and what the writer makes of what was read.
 ghost use Prim.Native.Nat.{_≤_};
-use crate::input;
 use crate::say;
 use packet::Content;
 use packet::Fields;
@@ -85,13 +84,13 @@ fn last_fields(f: Fields) {
 // Codes and entries, and whether there are only zeros past the last.
 fn lists(codes: &[u8], n: usize, entries: &[u8], k: usize) {
     say::text(b"\ncodes");
-    say::digits(input::part(codes, 0, n));
+    say::digits(format::part(codes, 0, n));
     say::text(b"\nentries");
-    say::hex(input::part(entries, 0, k));
-    if !say::all(input::part(codes, n, 322), 0) {
+    say::hex(format::part(entries, 0, k));
+    if !say::all(format::part(codes, n, 322), 0) {
         say::text(b"\na code past the last");
     }
-    if !say::all(input::part(entries, k, 272), 0) {
+    if !say::all(format::part(entries, k, 272), 0) {
         say::text(b"\nan entry past the last");
     }
 }
@@ -134,15 +133,15 @@ fn back(o: Opened, packet: &[u8]) {
     let n = codes_length(f.codes);
     let k = entries_length(c);
     if k == 0 {
-        written(f, input::part(&codes, 0, n), reader::body(packet));
+        written(f, format::part(&codes, 0, n), reader::body(packet));
     } else {
-        written(f, input::part(&codes, 0, n), input::part(&entries, 0, k));
+        written(f, format::part(&codes, 0, n), format::part(&entries, 0, k));
     }
 }
 
 // A whole record.
 pub(crate) fn record(b: &[u8]) {
-    let packet = input::part(b, 3, 65536);
+    let packet = format::part(b, 3, 65536);
     let o = reader::read(packet);
     shown(o);
     text_and_body(packet);

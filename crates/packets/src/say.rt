@@ -37,7 +37,7 @@ pub(crate) fn hex(b: &[u8]) {
         line[2 * i + 1] = glyph(x % 16);
         i += 1;
     }
-    spaced(input::part(&line, 0, 2 * n));
+    spaced(format::part(&line, 0, 2 * n));
 }
 
 // A space and a character for each digit; a dash where there is none.
@@ -49,7 +49,7 @@ pub(crate) fn digits(b: &[u8]) {
         line[i] = glyph(b[i]);
         i += 1;
     }
-    spaced(input::part(&line, 0, n));
+    spaced(format::part(&line, 0, n));
 }
 
 fn spaced(b: &[u8]) {
@@ -75,8 +75,8 @@ pub(crate) fn all(b: &[u8], x: u8) -> bool {
 
 // The bytes that were written at the start of lent memory, which was 0xEE throughout; then whether the rest still is.
 pub(crate) fn memory(lent: &[u8], length: usize) {
-    hex(input::part(lent, 0, length));
-    if all(input::part(lent, length, 1000), 0xEE) {
+    hex(format::part(lent, 0, length));
+    if all(format::part(lent, length, 1000), 0xEE) {
         text(b"\nthe rest as it was\n");
     } else {
         text(b"\nthe rest CHANGED\n");

@@ -23,7 +23,7 @@ fn sent(packet: &[u8], level: u8, version: u8, n: usize, memory: &mut [u8]) {
 // A whole record.
 pub(crate) fn record(b: &[u8]) {
     sent(
-        input::part(b, 7, 65536),
+        format::part(b, 7, 65536),
         input::byte(b, 1),
         input::byte(b, 2),
         input::two(b, 3) as usize,

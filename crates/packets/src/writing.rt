@@ -51,9 +51,9 @@ fn fields(b: &[u8]) -> Fields {
     let mut digits = [0u8; 35];
     let mut certificate = [0u8; 12];
     let mut signature = [0u8; 64];
-    input::fill(input::part(b, 12, 35), &mut digits);
-    input::fill(input::part(b, 51, 12), &mut certificate);
-    input::fill(input::part(b, 63, 64), &mut signature);
+    input::fill(format::part(b, 12, 35), &mut digits);
+    input::fill(format::part(b, 51, 12), &mut certificate);
+    input::fill(format::part(b, 63, 64), &mut signature);
     let c = content(b);
     Fields {
         kind: input::byte(b, 1),
@@ -79,8 +79,8 @@ pub(crate) fn record(b: &[u8]) {
     let n = input::two(b, 129) as usize;
     written(
         fields(b),
-        input::part(b, 133, n),
-        input::part(b, 133 + n, 65536),
+        format::part(b, 133, n),
+        format::part(b, 133 + n, 65536),
         input::two(b, 127) as usize,
         &mut [0xEEu8; 300],
     );
