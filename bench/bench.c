@@ -256,9 +256,18 @@ static const char *const pieces[5] = {"deliveries of 32 bytes", "deliveries of 6
 static const size_t lengths[8] = {2, 77, 250, 64, 128, 256, 512, 1024};
 static const char *const check_names[8] = {"packet check of 2 bytes", "packet check of 77 bytes", "packet check of 250 bytes", "64 bytes", "128 bytes", "256 bytes", "512 bytes", "1024 bytes"};
 
+/* For counting instructions: one way, one kind of work, so many deliveries or packets, and no word. */
+static int only(int way, int kind, size_t times)
+{
+    kinds[kind % 3](16 * PIECE);
+    return (kind < 3 ? receiving(way, times * PIECE, PIECE) : checking(way, 250, times)) > (size_t)1 << 40;
+}
+
 int main(int argc, char **argv)
 {
     table_prepare();
+    if (argc == 5 && strcmp(argv[1], "--only") == 0)
+        return only(argv[2][0] - '0', argv[3][0] - '0', (size_t)(argv[4][0] - '0'));
     for (int k = 0; k < 3; k++) {
         kinds[k](128 * 1000);
         agree_all(names[k], 128 * 1000);

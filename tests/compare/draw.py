@@ -164,40 +164,60 @@ def changed_content(rng, c):
     return (c[0], *numbers)
 
 
+def other_type(rng, f, codes, body):
+    return f._replace(type=rng.choice((rng.randrange(32), rng.randrange(256)))), codes, body
+
+
+def other_count(rng, f, codes, body):
+    return f._replace(count=f.count + rng.choice((-1, 1, 256)) & 65535), codes, body
+
+
+def other_numbers(rng, f, codes, body):
+    return f._replace(content=changed_content(rng, f.content)), codes, body
+
+
+def other_digit(rng, f, codes, body):
+    with_one(rng, rng.choice((f.digits, codes, f.certificate)), rng.choice((0, 1, 9, 10, 15, 16, 255)))
+    return f, codes, body
+
+
+def other_byte(rng, f, codes, body):
+    with_one(rng, body, rng.choice((0, 9, 10, 255)))
+    return f, codes, body
+
+
+def other_lengths(rng, f, codes, body):
+    body = rng.choice((body, body[1:], body + octets(rng, 1)))
+    return f, rng.choice((codes, codes[1:], codes + digits(rng, 1))), body
+
+
+def other_content(rng, f, codes, body):
+    return f._replace(content=content(rng, rng.choice(records.CONTENTS), rng.choice((0, len(body), len(body) // 8)))), codes, body
+
+
+def one_code_more(rng, f, codes, body):
+    return f._replace(count=f.count + 1 & 65535), codes + digits(rng, 23), body
+
+
+def other_body(rng, f, codes, body):
+    body = octets(rng, rng.choice((0, 1, 8, 160, 174, 255, 256, 257)))
+    return f._replace(content=content(rng, f.content[0], len(body))), codes, body
+
+
+def any_clock(rng, f, codes, body):
+    return f._replace(content=("clock", rng.choice(YEARS), *(rng.choice(EDGES) for _ in range(5)))), codes, body
+
+
+CHANGES = (other_type, other_count, other_numbers, other_digit, other_byte, other_lengths, other_content, one_code_more, other_body, any_clock)
+
+
 def written_record(rng):
-    """Fields that make a packet, with up to two things changed."""
-    f, codes, body = fields(rng, rng.choice(list(NAMES)))
-    size = len(write(f, codes, body, 250)[1])
-    room = rng.choice((250, 250, 300, size, size + 1, size - 1, rng.randrange(size)))
+    """Fields that make a packet, with up to two things changed, and room for it, or nearly."""
+    some = fields(rng, rng.choice(list(NAMES)))
+    size = len(write(*some, 250)[1])
     for _ in range(rng.choice((0, 1, 1, 1, 2, 2))):
-        what = rng.randrange(12)
-        if what == 0:
-            f = f._replace(type=rng.choice((rng.randrange(32), rng.randrange(256))))
-        elif what == 1:
-            f = f._replace(count=f.count + rng.choice((-1, 1, 256)) & 65535)
-        elif what == 2:
-            f = f._replace(content=changed_content(rng, f.content))
-        elif what == 3:
-            with_one(rng, rng.choice((f.digits, codes, f.certificate)), rng.choice((9, 10, 15, 16, 255)))
-        elif what == 4:
-            with_one(rng, f.digits, rng.randrange(10))
-        elif what == 5:
-            with_one(rng, body, rng.choice((0, 9, 10, 255)))
-        elif what == 6:
-            body = body + octets(rng, 1) if rng.randrange(2) else body[1:]
-        elif what == 7:
-            codes = codes + digits(rng, 1) if rng.randrange(2) else codes[1:]
-        elif what == 8:
-            name = rng.choice(records.CONTENTS)
-            f = f._replace(content=content(rng, name, rng.choice((0, len(body), len(body) // 8))))
-        elif what == 9:
-            f, codes = f._replace(count=f.count + 1 & 65535), codes + digits(rng, 23)
-        elif what == 10:
-            body = octets(rng, rng.choice((0, 1, 8, 160, 174, 255, 256, 257)))
-            f = f._replace(content=content(rng, f.content[0], len(body)))
-        else:
-            f = f._replace(content=("clock", rng.choice(YEARS), *(rng.choice(EDGES) for _ in range(5))))
-    return records.writing(f, codes, body, room)
+        some = rng.choice(CHANGES)(rng, *some)
+    return records.writing(*some, rng.choice((250, 250, 300, size, size + 1, size - 1, rng.randrange(size))))
 
 
 def sent_record(rng):
@@ -207,7 +227,8 @@ def sent_record(rng):
         p[rng.randrange(min(2, len(p)))] ^= 1 << rng.randrange(8)
     need = 13 * ((len(p) + 5) // 4)
     room = rng.choice((819, 832, need, need + 1, need, max(0, need - 1), rng.randrange(need + 1)))
-    return records.sending(bytes(p), rng.choice((0, 1, 2, 3, 4, 5, 6, 6, 7, 8)), rng.choice((0, 31, 32, 33, rng.randrange(32), rng.randrange(32))), room)
+    level, version = rng.choice((0, 1, 2, 3, 4, 5, 6, 6, 7, 8)), rng.choice((0, 31, 32, 33, rng.randrange(32), rng.randrange(32)))
+    return records.sending(bytes(p), level, version, room)
 
 
 def drawn(kind, seed):

@@ -21,11 +21,18 @@ def frame(level, version, total, number, four, fixed=0b101100000000):
     return bytes((one >> 8, one & 255, two >> 8, two & 255)) + four
 
 
+FAULTS = ("length", "check", "fill", "frame")
+
+
 def frames(rng, level, version, data, fault=None):
-    """The frames of a packet; a fault makes its check or its fill wrong."""
-    total = (len(data) + 5) // 4
-    joined = bytearray(data) + packet_check(data).to_bytes(2, "big") + b"\xff" * (total * 4 - len(data) - 2)
-    if fault:
+    """The frames of a packet; a fault makes its length field, its check or its last byte wrong, or adds a frame of fill."""
+    if fault == "length":
+        bit = rng.randrange(11)
+        data = bytes((data[0] ^ 1 << bit >> 8, data[1] ^ (1 << bit) % 256)) + data[2:]
+    total = min(63, (len(data) + 5) // 4 + (fault == "frame"))
+    check = packet_check(data) ^ (1 << rng.randrange(16) if fault == "check" else 0)
+    joined = bytearray(data) + check.to_bytes(2, "big") + b"\xff" * (total * 4 - len(data) - 2)
+    if fault == "fill":
         joined[-1] ^= 1 << rng.randrange(8)
     return [frame(level, version, total, k, bytes(joined[4 * k : 4 * k + 4])) for k in range(total)]
 
@@ -59,7 +66,7 @@ def traffic(rng, most=6):
     sent = []
     for level, version in pairs:
         data = packet(rng, rng.choice((2, 3, 5, 8, 30, 77, 78, 79, 250)))
-        sent += frames(rng, level, version, data, rng.randrange(4) == 0)
+        sent += frames(rng, level, version, data, rng.choice(FAULTS) if rng.randrange(3) == 0 else None)
     if rng.randrange(4) == 0:
         sent += frames(rng, *pairs[0], packet(rng, rng.choice((2, 8, 30))))
     if rng.randrange(2):

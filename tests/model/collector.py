@@ -17,9 +17,10 @@ def is_whole(joined):
 
 class Collector:
     def __init__(self):
-        self.held = {}  # four pairs at most: a free place is any of those not held
+        self.held = {}  # four pairs at most
 
     def offer(self, f):
+        """Keeps a frame or says why not, in the paper's order: size, fixed bits, level, number, contradiction, repeat, place."""
         if len(f) != 8:
             return 26
         if f[2] != 0b10110000 or f[3] >> 4 != 0:
@@ -50,10 +51,11 @@ class Collector:
         return b"".join(pieces[k] for k in range(total)) if len(pieces) == total else b""
 
     def release(self, level, version):
+        """Makes the pair's place free; 18 where it has none."""
         return 18 if self.held.pop((level, version), None) is None else 0
 
     def copy(self, level, version, room):
-        """The answer and the packet's P bytes, where the lent memory has room for them."""
+        """The answer and the packet's P bytes: 18 unless the pair is whole, then 10 where the lent memory is too short."""
         joined = self.joined(level, version)
         if not joined or not is_whole(joined):
             return 18, b""

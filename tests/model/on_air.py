@@ -13,7 +13,7 @@ def frame(level, version, total, number, four):
 
 
 def on_air(packet, level, version, room):
-    """The answer, the count of frames and the air bytes."""
+    """The answer, the count of frames and the air bytes: 20, 13, 27, 10, else N frames, N the least with 4N no less than P + 2."""
     p = len(packet)
     if not 2 <= p <= 250 or p != ((packet[0] & 7) << 8 | packet[1]) + 2:
         return 20, 0, b""

@@ -8,7 +8,7 @@ NAMES = {0: "frequencies", 1: "address", 2: "keep", 3: "clock", 12: "reset", 13:
          21: "hold"}
 NAMES.update((t, "raw") for t in (4, 5, 6, 7, 8, 11, 22, 23, 24))
 
-# how many digits a content has
+# how many digits a content has; 35 is the most
 DIGITS = {"address": 23, "reset": 6, "drill": 35, "text": 35}
 
 
@@ -20,4 +20,5 @@ def days(year, month):
 
 
 def is_clock(year, month, day, hour, minute, second):
+    """Type 3: month, day, hour, minute and second within their ranges."""
     return 1 <= month <= 12 and 1 <= day <= days(year, month) and hour <= 23 and minute <= 59 and second <= 59

@@ -1,6 +1,7 @@
 """The packet reader: a walk over the packet's bits that notes what is wrong on the way."""
 from .packet import NAMES, Fields, is_clock
 
+# beside a refusal all fields are zero, the content raw and empty
 NOTHING = Fields(0, 0, ("raw",), [0] * 35, 0, [0] * 12, bytes(64))
 
 
@@ -10,6 +11,7 @@ class Walk:
         self.wrong = set()
 
     def number(self, width, least=0, most=None):
+        """27 outside its range."""
         taken, self.bits = self.bits[:width], self.bits[width:]
         value = int(taken, 2)
         if value < least or most is not None and value > most:
@@ -17,10 +19,12 @@ class Walk:
         return value
 
     def ones(self, width):
+        """Reserved bits: 24 where one is 0."""
         if self.number(width) != (1 << width) - 1:
             self.wrong.add(24)
 
     def digits(self, n):
+        """Four bits each, 0 to 9: 25 above."""
         some = [self.number(4) for _ in range(n)]
         if max(some) > 9:
             self.wrong.add(25)
@@ -31,7 +35,7 @@ class Walk:
 
 
 def fits(name, content):
-    """Whether the content has as many bytes as the table says."""
+    """Whether the content has as many bytes as the table says; its count, where it has one, stands in it."""
     size = len(content)
     if name == "frequencies":
         return size >= 1 and size == 1 + 5 * content[0]
@@ -46,6 +50,8 @@ def fits(name, content):
 
 def opened(w, name, size):
     """A content of the table: its name and numbers, its digits, its bytes, its entries of eight numbers."""
+    if name == "raw":
+        return (name,), [], w.octets(size), []
     if name == "frequencies":
         k = w.number(8)
         return (name, k), [], b"", [x for _ in range(k) for x in [w.number(8, 1), w.number(8), *w.digits(6)]]
@@ -54,27 +60,6 @@ def opened(w, name, size):
         address = w.octets(m)
         w.ones(4)
         return (name, m), w.digits(23), address, []
-    if name == "keep":
-        return (name, w.number(8, 0, 1), w.number(16)), [], b"", []
-    if name == "clock":
-        clock = (w.number(16), *w.octets(5))
-        if not is_clock(*clock):
-            w.wrong.add(27)
-        return (name, *clock), [], b"", []
-    if name == "reset":
-        w.number(2, 1, 1)
-        change = w.number(2, 1, 2)
-        w.ones(4)
-        return (name, change), w.digits(6), b"", []
-    if name == "factory":
-        w.number(2, 1, 1)
-        w.ones(6)
-        return (name,), [], b"", []
-    if name == "drill":
-        w.number(4, 1, 1)
-        action = w.number(4, 1, 2)
-        w.ones(4)
-        return (name, action), w.digits(35), b"", []
     if name == "text":
         kind, charset = w.number(4, 1, 3), w.number(4, 0, 4)
         w.ones(4)
@@ -83,15 +68,40 @@ def opened(w, name, size):
     if name == "command":
         k = w.number(8)
         return (name, k), [], w.octets(k), []
-    if name == "hold":
-        serial = w.number(8)
-        w.ones(8)
-        return (name, serial), [], b"", []
-    return (name,), [], w.octets(size), []
+    numbers, digits = fixed(w, name)
+    return (name, *numbers), digits, b"", []
+
+
+def fixed(w, name):
+    """The numbers and the digits of a content that has always the same length."""
+    if name == "keep":
+        return (w.number(8, 0, 1), w.number(16)), []
+    if name == "clock":
+        clock = (w.number(16), *w.octets(5))
+        if not is_clock(*clock):
+            w.wrong.add(27)
+        return clock, []
+    if name == "reset":
+        w.number(2, 1, 1)
+        change = w.number(2, 1, 2)
+        w.ones(4)
+        return (change,), w.digits(6)
+    if name == "factory":
+        w.number(2, 1, 1)
+        w.ones(6)
+        return (), []
+    if name == "drill":
+        w.number(4, 1, 1)
+        action = w.number(4, 1, 2)
+        w.ones(4)
+        return (action,), w.digits(35)
+    serial = w.number(8)  # hold
+    w.ones(8)
+    return (serial,), []
 
 
 def read(packet):
-    """The answer, the fields, the codes' digits, the entries' numbers, the body."""
+    """The answer, the fields, the codes' digits, the entries' numbers, the body: 20, 23, 26, then 24, 25, 27 wherever they are due."""
     def refused(answer):
         return answer, NOTHING, [], [], b""
 

@@ -1,4 +1,4 @@
-"""The receiver, a bit at a time."""
+"""The receiver, a bit at a time: it hunts for a block with offset A, then expects B, C, D and A again. No bit is mended."""
 from .checks import block
 
 
@@ -24,7 +24,7 @@ class Receiver:
         return frame
 
     def receive(self, delivery, room):
-        """The answer and the frames of a delivery, in order. A 41st frame cannot come: 512 bytes have 4096 bits, and 40 frames 4160."""
+        """The answer and the frames of a delivery, in order. A 41st needs 4264 bits; 4096 come, and 103 at most were there."""
         if len(delivery) > 512:
             return 11, []
         if room < 320:

@@ -1,4 +1,5 @@
-"""The packet writer: its tests in their order, then the bits."""
+"""The packet writer: its tests in their order, then the bits. As decided, it also answers 27 to what could not be read back (digits that the
+content doesn't use, a body for a content that has none), and a raw content has no count of its own."""
 from .packet import DIGITS, NAMES, is_clock
 
 COUNTED = {"frequencies": 8, "address": 1, "text": 1, "command": 1}  # how many numbers of the body make one of the count
@@ -19,7 +20,7 @@ def wrong_digit(fields, codes, body):
 
 
 def wrong_field(fields, body):
-    """27: outside its list or range, or not of the type named; also what could not be read back, and type 1 with codes."""
+    """27: outside its list or range, or not of the type named, or not to be read back; and type 1 with codes."""
     name, *numbers = fields.content
     if name != NAMES[fields.type] or fields.type == 1 and fields.count > 0:
         return True
@@ -75,7 +76,7 @@ def content_bits(fields, body):
 
 
 def write(fields, codes, body, room):
-    """The answer and the packet."""
+    """The answer and the packet: 23, 26, 25, 27, 20 where it would have over 250 bytes, 10."""
     if fields.type not in NAMES:
         return 23, b""
     if wrong_count(fields, codes, body):
