@@ -1,4 +1,4 @@
--- What the on-air writer's helpers ask and give.
+-- What the functions under the on-air writer ask of each other and give.
 use mathlib.Core.Path.{_≡_}
 use mathlib.Core.List.{List, _++_}
 use Prim.Native.Nat.{ℕ, _+_, _*_, _/_, _<_, _≤_}
@@ -16,13 +16,13 @@ packed a b c d = bytes (bitsOf 26 a ++ (bitsOf 26 b ++ (bitsOf 26 c ++ bitsOf 26
 unfoldable pub firstWord : Heading → ℕ
 firstWord h = (h .level * 32 + h .version) * 256 + (h .total .0 * 4 + h .number .0 / 16)
 
--- two bytes and their word (ours, for the helpers)
+-- two bytes and their word (ours, between functions)
 pub record WordOf (high low r : ℕ) : Type 0 where
   pub word : r ≡ high * 256 + low
   pub high-small : high < 256
   pub low-small : low < 256
 
--- a part of the output for one frame, and a packet with its check (ours, for the helpers)
+-- a part of the output for one frame, and a packet with its check (ours, between functions)
 pub record Room (out packet : List ℕ) (check : ℕ) : Type 0 where
   pub wide : 13 ≤ length out
   pub right : check ≡ crc16 packet

@@ -1,6 +1,5 @@
 // P, the length of a packet in two bytes, the packet: what the reader says of it, and what the writer makes of what was read.
 ghost use Prim.Native.Nat.{_≤_};
-use crate::input;
 use crate::say;
 use packet::Content;
 use packet::Fields;
