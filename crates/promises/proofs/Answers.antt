@@ -1,11 +1,11 @@
 -- Demand 1: each number exactly in its case, and what a refusal leaves as it was. Assumes nothing.
-use mathlib.Core.Path.{_≡_, refl}
+use mathlib.Core.Path.{_≡_}
 use mathlib.Core.Bool.{true, false}
 use mathlib.Core.List.{List}
 use Prim.Native.Nat.{ℕ}
 use lib.ListN.{length}
 use borrow.Author.Tests.{ne-eqb}
-use Rattle.laws.specs.Refusals.{Case, first, among, apart}
+use Rattle.laws.specs.Refusals.{Case, first, apart}
 use Rattle.laws.proofs.Cases.{if-no}
 use Rattle.laws.proofs.Refusals.{exact, done, listed}
 use Rattle.frame.specs.Heading.{refusals, noHeading, headingOf}
@@ -14,7 +14,7 @@ use Rattle.air.specs.OnAir.{cases, answerOf, airedOf, outputOf}
 use Rattle.receiver.specs.declared.Receiver.{Receiver}
 use Rattle.receiver.specs.Receive.{receivedOf, cases as receiveCases, answerOf as receiveAnswer, outputOf as receiveOutput}
 use Rattle.receiver.proofs.Cutting.{answer-is}
-use Rattle.receiver.proofs.Answers.{refused-unchanged as receive-refused}
+use Rattle.receiver.proofs.Answers.{numbers-apart as receive-apart, refused-unchanged as receive-refused}
 use Rattle.collector.specs.declared.Collector.{Collector}
 use Rattle.collector.specs.Places.{copyAnswer}
 use Rattle.collector.specs.Collector.{keeps, offerCases, offered, releaseCases, released, copiedCases, answered, copied}
@@ -25,10 +25,6 @@ use Rattle.promises.proofs.Sent.{numbers-apart}
 
 pub exactly : (cs : List Case) → apart cs ≡ true → Exactly (first cs) cs
 exactly cs a = record { each = exact cs a; done = done cs a; listed = listed cs }
-
-receive-apart : (r : Receiver) (d out : List ℕ) → apart (receiveCases r d out) ≡ true
-unfolding receiveCases apart among
-receive-apart r d out = refl
 
 receive-exactly : (r : Receiver) (d out : List ℕ) → Exactly (receivedOf r d out .answer) (receiveCases r d out)
 unfolding receiveAnswer

@@ -1,6 +1,6 @@
--- The receiver's numbers: each exactly in its case, none but those listed, and what a refusal leaves as it was. Assumes nothing.
+-- The receiver's numbers: each exactly in its case, and what a refusal leaves as it was. Assumes nothing.
 use mathlib.Core.Path.{_≡_, refl, sym, ap, _∙_}
-use mathlib.Core.Logic.{_↔_, _⊎_}
+use mathlib.Core.Logic.{_↔_}
 use mathlib.Core.Bool.{true, false, not, _&&_}
 use mathlib.Core.List.{List}
 use Prim.Native.Nat.{ℕ, _<_}
@@ -9,7 +9,7 @@ use borrow.Author.Tests.{ne-eqb, not-true, ltb-true, ltb-false}
 use lib.ListN.{length, take}
 use lib.Dec.{eqb, ltb}
 use Rattle.laws.specs.Refusals.{none, among, apart, caseAt}
-use Rattle.laws.proofs.Refusals.{exact, listed}
+use Rattle.laws.proofs.Refusals.{exact}
 use Rattle.laws.proofs.Cases.{if-no, and-left, and-right}
 use Rattle.receiver.specs.declared.Receiver.{Receiver}
 use Rattle.receiver.specs.declared.Received.{Received}
@@ -18,7 +18,7 @@ use Rattle.receiver.proofs.Sound.{at-most-forty}
 use Rattle.receiver.proofs.Cutting.{answer-is}
 
 module _ (r : Receiver) (d out : List ℕ) where
-  numbers-apart : apart (cases r d out) ≡ true
+  pub numbers-apart : apart (cases r d out) ≡ true
   unfolding cases apart among
   numbers-apart = refl
 
@@ -33,11 +33,6 @@ module _ (r : Receiver) (d out : List ℕ) where
   answer-exact k h =
       let e = exact (cases r d out) numbers-apart k (omega (arith, four)) in
       (λ a. e .0 (sym (answer-is r d out) ∙ a), λ c. answer-is r d out ∙ e .1 c)
-
-  -- No number comes but 0 and those four.
-  pub answer-listed : (answerOf r d out ≡ 0) ⊎ (among (answerOf r d out) (cases r d out) ≡ true)
-  unfolding answerOf
-  answer-listed = listed (cases r d out)
 
   -- A refusal hands back the receiver given and no frame, and leaves the output as it was.
   pub refused-unchanged : (receivedOf r d out .answer ≡ 0 → ⊥)

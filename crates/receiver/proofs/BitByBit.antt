@@ -13,7 +13,7 @@ use Rattle.block.specs.Block.{isValid}
 use Rattle.block.specs.declared.Letter.the-variants.{A, B}
 use Rattle.receiver.specs.declared.Phase.{Phase}
 use Rattle.receiver.specs.declared.Phase.the-variants.{Hunting, Locked}
-use Rattle.receiver.specs.Rule.{Heard, next, complete, kept, ended, onto, rule, heard}
+use Rattle.receiver.specs.Rule.{Heard, next, complete, kept, ended, onto, heard}
 use Rattle.receiver.specs.Steps.{judged, step, steps}
 use Rattle.receiver.proofs.Rule.{run, heard-short, heard-found, heard-on, heard-pass, heard-fail}
 use Rattle.receiver.proofs.Cutting.{heard-cut}

@@ -6,7 +6,7 @@ use Prim.Native.Nat.{ℕ, zero, suc, _+_, _*_, _^_, _≤_, _<_}
 use native.Mathlib.Omega.{arith}
 use lib.ListN.{length, take, drop, length-append}
 use lib.Seq.{take-at, drop-at}
-use Rattle.laws.specs.Bits.{at, bitsOf, spread, bits, bytes}
+use Rattle.laws.specs.Bits.{at, bitsOf, spread, bits}
 use Rattle.laws.proofs.Bits.{Under, length-bitsOf, at-below, under-spread}
 use Rattle.laws.proofs.ByteFields.{at-front}
 use Rattle.block.specs.Block.{offsetOf, checkWord, isValid}

@@ -2,7 +2,7 @@
 use mathlib.Core.Path.{_≡_, refl, sym, ap, _∙_}
 use mathlib.Core.Bool.{Bool, true, false, cond}
 use mathlib.Core.List.{List, [], _++_}
-use Prim.Native.Nat.{ℕ, zero, suc, _+_, _-_, _≤_, _<_}
+use Prim.Native.Nat.{ℕ, zero, suc, _≤_, _<_}
 use native.Mathlib.Omega.{arith}
 use borrow.Author.Tests.{lt-ltb, le-ltb, ltb-true, ltb-false}
 use lib.ListN.{length, take, drop, length-drop}
@@ -74,9 +74,6 @@ module _ (n : ℕ) (g l : List ℕ) (h : 26 ≤ length l) where
 -- how large n is doesn't matter, once it is no less than the count of bits
 abbrev Same : Phase → List ℕ → List ℕ → Heard → Type 0
 Same p g l h = (m : ℕ) → length l ≤ m → rule m p g l ≡ h
-
-more : (m n : ℕ) → m ≤ n → suc n ≡ m + suc (n - m)
-more m n h = omega arith
 
 same : (n : ℕ) (p : Phase) (g l : List ℕ) → length l ≤ n → Same p g l (rule n p g l)
 same =

@@ -6,7 +6,7 @@ use Prim.Native.Nat.{ℕ, zero, suc, _+_, _*_, _/_, _<_, _≤_}
 use native.Mathlib.Omega.{arith}
 use lib.ListN.{length, take, drop, length-append, length-drop}
 use lib.Seq.{getD-drop, length-take-le}
-use Rattle.laws.specs.Bits.{at, bits, bytes}
+use Rattle.laws.specs.Bits.{at, bits}
 use Rattle.laws.proofs.Bits.{Under, length-bitsOf, length-spread, length-run, under-append, under-bitsOf, under-spread}
 use Rattle.block.specs.Block.{isValid}
 use Rattle.block.specs.declared.Letter.{Letter}

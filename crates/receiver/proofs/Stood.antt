@@ -20,12 +20,12 @@ use Rattle.frame.proofs.OnAir.{block-number}
 use Rattle.receiver.specs.declared.Phase.{Phase}
 use Rattle.receiver.specs.declared.Phase.the-variants.{Hunting, Locked}
 use Rattle.receiver.specs.Rule.{Heard, next, complete, kept, ended, onto, rule, heard}
-use Rattle.receiver.specs.Receive.{freshReceiver, before, passed, hearing}
-use Rattle.receiver.specs.Calls.{Call, allTaken, allFrames, delivered, inBounds}
+use Rattle.receiver.specs.Receive.{freshReceiver, before, hearing}
+use Rattle.receiver.specs.Calls.{Call, allFrames, delivered, inBounds}
 use Rattle.receiver.proofs.Rule.{run}
 use Rattle.receiver.proofs.Sound.{Start, under-take, under-drop, kept-size, kept-bits}
 use Rattle.receiver.proofs.Cutting.{cutting-any, takes-all}
-use Rattle.receiver.specs.Standing.{Standing, StandIn}
+use Rattle.receiver.specs.Standing.{StandIn}
 
 -- ---- the bits of blocks, from what they say
 -- blocks of these letters, with the information bits g from p on

@@ -5,7 +5,6 @@ use Prim.Native.Nat.{ℕ, zero, suc}
 use lib.ListN.{length, take, drop}
 use lib.Dec.{eqb, leb}
 use Rattle.receiver.specs.declared.Receiver.{Receiver}
-use Rattle.receiver.specs.declared.Received.{Received}
 use Rattle.receiver.specs.Receive.{receivedOf, outputOf}
 
 -- n frames as they stand in an output, eight bytes each from its first byte

@@ -1,7 +1,7 @@
 -- What the two readers and the small functions under them cite: the rule on the bits left from a place of a delivery on.
 use mathlib.Core.Path.{_≡_}
 use mathlib.Core.Bool.{true}
-use mathlib.Core.List.{List, [], _∷_, _++_}
+use mathlib.Core.List.{List, [], _++_}
 use Prim.Native.Nat.{ℕ, _+_, _*_, _/_, _%_, _^_, _≤_, _<_}
 use lib.ListN.{length, drop}
 use Rattle.laws.specs.Bits.{at, bitsOf, bits}
@@ -11,7 +11,7 @@ use Rattle.block.specs.declared.Letter.the-variants.{A, B, C, D}
 use Rattle.receiver.specs.declared.Phase.the-variants.{Hunting, Locked}
 use Rattle.receiver.specs.declared.readers.Read.{Read}
 use Rattle.receiver.specs.declared.readers.Going.{Going}
-use Rattle.receiver.specs.Rule.{Heard, next, heard}
+use Rattle.receiver.specs.Rule.{Heard, heard}
 use Rattle.receiver.specs.Receive.{before, endOf}
 
 -- a reader's result, where n frames came before

@@ -1,7 +1,7 @@
 -- The receiving rule (paper 01, "Receiver"), on the bits left: those held of the block at hand, then those of the delivery.
 use mathlib.Core.Bool.{cond}
 use mathlib.Core.List.{List, [], _∷_, _++_}
-use Prim.Native.Nat.{ℕ, zero, suc, _*_}
+use Prim.Native.Nat.{ℕ, zero, suc}
 use lib.ListN.{length, take, drop}
 use lib.Dec.{ltb}
 use Rattle.laws.specs.Bits.{at, bytes}

@@ -6,7 +6,6 @@ use lib.ListN.{length, take, drop}
 use lib.Dec.{ltb}
 use Rattle.laws.specs.Bits.{at}
 use Rattle.block.specs.Block.{isValid}
-use Rattle.block.specs.declared.Letter.{Letter}
 use Rattle.block.specs.declared.Letter.the-variants.{A, B}
 use Rattle.receiver.specs.declared.Phase.{Phase}
 use Rattle.receiver.specs.declared.Phase.the-variants.{Hunting, Locked}

@@ -7,7 +7,7 @@ mod readers;
 use block::Letter;
 use readers::Read;
 ghost use mathlib.Core.Path.{_≡_};
-ghost use Prim.Native.Nat.{ℕ, _≤_};
+ghost use Prim.Native.Nat.{_≤_};
 ghost use lib.ListN.{length};
 ghost use lib.Seq.{sets};
 ghost use Rattle.receiver.specs.Receive.{freshReceiver, hearing, joined, receivedOf, outputOf};

@@ -1,7 +1,7 @@
 // Bits that a hunting reader passes over 32 at a time.
 ghost use mathlib.Core.Path.{_≡_};
 ghost use mathlib.Core.Bool.{true};
-ghost use Prim.Native.Nat.{ℕ, _*_, _^_, _≤_, _<_};
+ghost use Prim.Native.Nat.{_*_, _^_, _≤_, _<_};
 ghost use lib.ListN.{length};
 ghost use Rattle.receiver.specs.Readers.{Marks, Passes};
 use crate::air::word_at;

@@ -2,7 +2,7 @@
 use crate::Phase;
 use crate::Receiver;
 ghost use mathlib.Core.Path.{_≡_};
-ghost use Prim.Native.Nat.{ℕ, _*_, _%_, _^_, _≤_, _<_};
+ghost use Prim.Native.Nat.{_*_, _%_, _^_, _≤_, _<_};
 ghost use lib.ListN.{length};
 ghost use lib.Seq.{sets};
 ghost use Rattle.laws.specs.Bits.{bitsOf};
