@@ -62,7 +62,8 @@ def days(rng):
 
 
 def sizes(rng):
-    """Each type with each count of codes, and as much content as fits or one more; packets of each length up to 251 on air."""
+    """Each type with each count of codes, and as much content as fits or one more; counts of codes about 255, all lent;
+    packets of each length up to 251 on air."""
     for t in NAMES:
         for n in range(17):
             f, _, body = fields(rng, t)
@@ -74,6 +75,9 @@ def sizes(rng):
             f, codes, _ = fields(rng, t)
             body = [rng.randrange(256) for _ in range(k)]
             yield writing(f._replace(content=content(rng, NAMES[t], k)), codes, body, 250)
+    f, _, body = fields(rng, 21)
+    for n in (254, 255, 256, 257):
+        yield writing(f._replace(count=n), digits(rng, 23 * n), body, 250)
     for size in range(252):
         yield sending(bytes(mended(bytearray(rng.randbytes(size)))), rng.randrange(1, 7), rng.randrange(32), 832)
 
