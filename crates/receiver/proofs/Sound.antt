@@ -2,12 +2,12 @@
 use mathlib.Core.Path.{_≡_, refl, _∙_}
 use mathlib.Core.Bool.{true, false}
 use mathlib.Core.List.{List, [], _∷_, _++_}
-use Prim.Native.Nat.{ℕ, zero, suc, _+_, _*_, _/_, _<_, _≤_}
+use Prim.Native.Nat.{ℕ, _+_, _*_, _/_, _<_, _≤_}
 use native.Mathlib.Omega.{arith}
 use lib.ListN.{length, take, drop, length-append, length-drop}
-use lib.Seq.{getD-drop, length-take-le}
+use lib.Seq.{length-take-le}
 use Rattle.laws.specs.Bits.{at, bits}
-use Rattle.laws.proofs.Bits.{Under, length-bitsOf, length-spread, length-run, under-append, under-bitsOf, under-spread}
+use Rattle.laws.proofs.Bits.{Under, length-bitsOf, length-spread, length-run, under-append, under-bitsOf, under-spread, under-take, under-drop}
 use Rattle.block.specs.Block.{isValid}
 use Rattle.block.specs.declared.Letter.{Letter}
 use Rattle.block.specs.declared.Letter.the-variants.{A, B, C, D}
@@ -17,15 +17,6 @@ use Rattle.receiver.specs.declared.Receiver.{Receiver}
 use Rattle.receiver.specs.Rule.{Heard, next, complete, kept, ended, onto, rule, heard}
 use Rattle.receiver.specs.Receive.{before, passed, begunOf, heldOf, hearing, joined}
 use Rattle.receiver.proofs.Rule.{run}
-
-pub under-take : (n : ℕ) (l : List ℕ) → Under 2 l → Under 2 (take n l)
-under-take zero l u i = omega arith
-under-take (suc n) [] u i = omega arith
-under-take (suc n) (x ∷ l) u zero = u 0
-under-take (suc n) (x ∷ l) u (suc i) = under-take n l (λ j. u (suc j)) i
-
-pub under-drop : (n : ℕ) (l : List ℕ) → Under 2 l → Under 2 (drop n l)
-under-drop n l u i = let e = getD-drop n l i 0 in omega (arith, u (n + i))
 
 -- every frame has eight bytes
 abbrev pub Eights : List (List ℕ) → Type 0
@@ -84,18 +75,18 @@ sound = run (λ p g l h. Start p g l → Sound p l h) short found on pass fail
 
     found : (g l : List ℕ) (h : Heard) → 26 ≤ length l → isValid (at l 0 26) A ≡ true → (Start (Locked B) (take 16 l) (drop 26 l) → Sound (Locked B) (drop 26 l) h) → Start Hunting g l → Sound Hunting l h
     found g l h k v ih s =
-        let r = ih (record { size = length-take-le 16 l (omega arith); begun = under-take 16 l (s .left); left = under-drop 26 l (s .left) }) in
+        let r = ih (record { size = length-take-le 16 l (omega arith); begun = under-take 2 16 l (s .left); left = under-drop 2 26 l (s .left) }) in
         record { eights = r .eights; size = r .size; short = r .short; begun = r .begun; held = r .held; room = omega (arith, r .room, length-drop 26 l) }
 
     on : (g l : List ℕ) (h : Heard) → 26 ≤ length l → isValid (at l 0 26) A ≡ false → (Start Hunting g (drop 1 l) → Sound Hunting (drop 1 l) h) → Start Hunting g l → Sound Hunting l h
     on g l h k v ih s =
-        let r = ih (record { size = s .size; begun = s .begun; left = under-drop 1 l (s .left) }) in
+        let r = ih (record { size = s .size; begun = s .begun; left = under-drop 2 1 l (s .left) }) in
         record { eights = r .eights; size = r .size; short = r .short; begun = r .begun; held = r .held; room = omega (arith, r .room, length-drop 1 l) }
 
     pass : (x : Letter) (g l : List ℕ) (h : Heard) → 26 ≤ length l → isValid (at l 0 26) x ≡ true → (Start (Locked (next x)) (kept x (g ++ take 16 l)) (drop 26 l) → Sound (Locked (next x)) (drop 26 l) h) → Start (Locked x) g l → Sound (Locked x) l (onto (complete x (g ++ take 16 l)) h)
     pass x g l h k v ih s =
         let t : length (g ++ take 16 l) ≡ before x * 16 + 16 = omega (arith, length-append g (take 16 l), length-take-le 16 l (omega arith), s .size) in
-        let r = ih (record { size = kept-size x (g ++ take 16 l) t; begun = kept-bits x (g ++ take 16 l) (under-append 2 g (take 16 l) (s .begun) (under-take 16 l (s .left))); left = under-drop 26 l (s .left) }) in
+        let r = ih (record { size = kept-size x (g ++ take 16 l) t; begun = kept-bits x (g ++ take 16 l) (under-append 2 g (take 16 l) (s .begun) (under-take 2 16 l (s .left))); left = under-drop 2 26 l (s .left) }) in
         let fs = complete x (g ++ take 16 l) in
         record {
           eights = eights-append fs (h .frames) (complete-eights x (g ++ take 16 l) t) (r .eights);
@@ -108,7 +99,7 @@ sound = run (λ p g l h. Start p g l → Sound p l h) short found on pass fail
 
     fail : (x : Letter) (g l : List ℕ) (h : Heard) → 26 ≤ length l → isValid (at l 0 26) x ≡ false → (Start Hunting [] (drop 26 l) → Sound Hunting (drop 26 l) h) → Start (Locked x) g l → Sound (Locked x) l h
     fail x g l h k v ih s =
-        let r = ih (record { size = refl; begun = λ i. omega arith; left = under-drop 26 l (s .left) }) in
+        let r = ih (record { size = refl; begun = λ i. omega arith; left = under-drop 2 26 l (s .left) }) in
         record { eights = r .eights; size = r .size; short = r .short; begun = r .begun; held = r .held; room = omega (arith, r .room, length-drop 26 l) }
 
 pub eights-joined : (fs : List (List ℕ)) → Eights fs → length (joined fs) ≡ length fs * 8

@@ -10,7 +10,7 @@ use lib.Dec.{eqb, ltb}
 use borrow.Author.Tests.{eqb-true}
 use Rattle.laws.specs.Bits.{at, bitsOf, bits, bytes}
 use Rattle.laws.proofs.Cases.{and-right}
-use Rattle.laws.proofs.Bits.{Under, at-left, at-right, at-below, bits-at, bits-bytes, under-append, under-spread}
+use Rattle.laws.proofs.Bits.{Under, at-left, at-right, at-below, bits-at, bits-bytes, under-append, under-spread, under-take, under-drop}
 use Rattle.laws.proofs.ByteFields.{at-parts}
 use Rattle.block.specs.declared.Letter.{Letter}
 use Rattle.block.specs.declared.Letter.the-variants.{A, B, C, D}
@@ -23,7 +23,7 @@ use Rattle.receiver.specs.Rule.{Heard, next, complete, kept, ended, onto
 use Rattle.receiver.specs.Receive.{freshReceiver, before, hearing}
 use Rattle.receiver.specs.Calls.{Call, allFrames, delivered, inBounds}
 use Rattle.receiver.proofs.Rule.{run}
-use Rattle.receiver.proofs.Sound.{Start, under-take, under-drop, kept-size, kept-bits}
+use Rattle.receiver.proofs.Sound.{Start, kept-size, kept-bits}
 use Rattle.receiver.proofs.Cutting.{cutting-any, takes-all}
 use Rattle.receiver.specs.Standing.{StandIn}
 
@@ -118,13 +118,13 @@ stood = run (λ p g l h. Start p g l → StandIn (h .frames) (begun p g ++ l)) s
         → (Start (Locked B) (take 16 l) (drop 26 l) → StandIn (h .frames) (begun (Locked B) (take 16 l) ++ drop 26 l))
         → Start Hunting g l → StandIn (h .frames) l
     found g l h k v ih s =
-        let r = ih (record { size = length-take-le 16 l (omega arith); begun = under-take 16 l (s .left); left = under-drop 26 l (s .left) }) in
+        let r = ih (record { size = length-take-le 16 l (omega arith); begun = under-take 2 16 l (s .left); left = under-drop 2 26 l (s .left) }) in
         subst (StandIn (h .frames)) (ap (λ (m : List ℕ). m ++ drop 26 l) (one-on A [] l refl k (s .left) v) ∙ take-append-drop 26 l) r
 
     on : (g l : List ℕ) (h : Heard) → 26 ≤ length l → isValid (at l 0 26) A ≡ false → (Start Hunting g (drop 1 l) → StandIn (h .frames) (drop 1 l))
         → Start Hunting g l → StandIn (h .frames) l
     on g l h k v ih s =
-        let r = ih (record { size = s .size; begun = s .begun; left = under-drop 1 l (s .left) }) in
+        let r = ih (record { size = s .size; begun = s .begun; left = under-drop 2 1 l (s .left) }) in
         subst (StandIn (h .frames)) (take-append-drop 1 l) (stand-behind (h .frames) (take 1 l) (drop 1 l) r)
 
     -- a letter but D: the frame begun grows
@@ -138,7 +138,7 @@ stood = run (λ p g l h. Start p g l → StandIn (h .frames) (begun p g ++ l)) s
         → StandIn (h .frames) (drop 26 l) → StandIn (bytes (g ++ take 16 l) ∷ h .frames) (sent (letters D) 0 g ++ l)
     ends g l h s b k u v r =
         let t : length (g ++ take 16 l) ≡ 64 = omega (arith, length-append g (take 16 l), length-take-le 16 l (omega arith)) in
-        let made = frame-sent (g ++ take 16 l) t (under-append 2 g (take 16 l) b (under-take 16 l u)) ∙ one-on D g l s k u v in
+        let made = frame-sent (g ++ take 16 l) t (under-append 2 g (take 16 l) b (under-take 2 16 l u)) ∙ one-on D g l s k u v in
         record {
           before = [];
           behind = drop 26 l;
@@ -159,13 +159,13 @@ stood = run (λ p g l h. Start p g l → StandIn (h .frames) (begun p g ++ l)) s
         → Start (Locked x) g l → StandIn (onto (complete x (g ++ take 16 l)) h .frames) (begun (Locked x) g ++ l)
     pass x g l h k v ih s =
         let t : length (g ++ take 16 l) ≡ before x * 16 + 16 = omega (arith, length-append g (take 16 l), length-take-le 16 l (omega arith), s .size) in
-        let r = ih (record { size = kept-size x (g ++ take 16 l) t; begun = kept-bits x (g ++ take 16 l) (under-append 2 g (take 16 l) (s .begun) (under-take 16 l (s .left))); left = under-drop 26 l (s .left) }) in
+        let r = ih (record { size = kept-size x (g ++ take 16 l) t; begun = kept-bits x (g ++ take 16 l) (under-append 2 g (take 16 l) (s .begun) (under-take 2 16 l (s .left))); left = under-drop 2 26 l (s .left) }) in
         by-letter x g l h (s .size) (s .begun) k (s .left) v r
 
     fail : (x : Letter) (g l : List ℕ) (h : Heard) → 26 ≤ length l → isValid (at l 0 26) x ≡ false → (Start Hunting [] (drop 26 l) → StandIn (h .frames) (drop 26 l))
         → Start (Locked x) g l → StandIn (h .frames) (begun (Locked x) g ++ l)
     fail x g l h k v ih s =
-        let r = ih (record { size = refl; begun = λ i. omega arith; left = under-drop 26 l (s .left) }) in
+        let r = ih (record { size = refl; begun = λ i. omega arith; left = under-drop 2 26 l (s .left) }) in
         subst (StandIn (h .frames)) (joins (begun (Locked x) g) l) (stand-behind (h .frames) (begun (Locked x) g ++ take 26 l) (drop 26 l) r)
 
 -- Every frame that a fresh receiver hands out, in whatever deliveries, stood on air whole: its 104 bits, as a sender makes them, are among the

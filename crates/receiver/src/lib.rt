@@ -1,5 +1,5 @@
 // The receiver: deliveries of air bytes in, frames out.
-mod air;
+mod delivery;
 mod output;
 mod passing;
 mod readers;

@@ -4,7 +4,7 @@ ghost use mathlib.Core.Bool.{true};
 ghost use Prim.Native.Nat.{_*_, _^_, _≤_, _<_};
 ghost use lib.ListN.{length};
 ghost use Rattle.receiver.specs.Readers.{Marks, Passes};
-use crate::air::word_at;
+use crate::delivery::word_at;
 
 // Marks each place of a number where a block A begins, and few others: the product of ten sums of bits, each of which is 1 in every block A.
 fn marks(u: u64) -> u64

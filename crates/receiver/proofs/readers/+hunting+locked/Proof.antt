@@ -20,9 +20,9 @@ use Rattle.receiver.proofs.readers.locked.Reads as locked
 use Rattle.receiver.proofs.readers.locked.Kinds as locked-kinds
 use Rattle.receiver.proofs.readers.+hunting+locked.Lts-locked as locked-lts
 use Rattle.block.proofs.valid.Reads as valid-reads
-use Rattle.receiver.proofs.air.bit_at.Reads as bit-at-reads
-use Rattle.receiver.proofs.air.followed.Reads as followed-reads
-use Rattle.receiver.proofs.air.word_at.Reads as word-at-reads
+use Rattle.receiver.proofs.delivery.bit_at.Reads as bit-at-reads
+use Rattle.receiver.proofs.delivery.followed.Reads as followed-reads
+use Rattle.receiver.proofs.delivery.word_at.Reads as word-at-reads
 use Rattle.receiver.proofs.passing.passing.Reads as passing-reads
 use Rattle.receiver.proofs.readers.block_passed.Reads as block-passed-reads
 use Rattle.receiver.proofs.readers.+hunting+locked.{statement}

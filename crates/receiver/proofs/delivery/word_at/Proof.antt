@@ -1,10 +1,10 @@
--- `receiver::air::word_at` meets its contract: four bytes are 32 bits. Assumes nothing.
+-- `receiver::delivery::word_at` meets its contract: four bytes are 32 bits. Assumes nothing.
 use Prim.Native.Nat.{_+_, _/_}
 use native.Mathlib.Omega.{arith}
 use Rattle.receiver.proofs.Octets.{four}
 use borrow.Author.Needs.{needs}
-use Rattle.receiver.proofs.air.word_at.Statement.{statement}
-use Rattle.receiver.proofs.air.word_at.Tie as tie
+use Rattle.receiver.proofs.delivery.word_at.Statement.{statement}
+use Rattle.receiver.proofs.delivery.word_at.Tie as tie
 
 shared-slice-read-a : tie.Need-shared-slice-read-a
 shared-slice-read-a c = search needs

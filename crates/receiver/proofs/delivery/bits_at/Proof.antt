@@ -1,4 +1,4 @@
--- `receiver::air::bits_at` meets its contract: what stands before the bits and behind them is cut off. Assumes nothing.
+-- `receiver::delivery::bits_at` meets its contract: what stands before the bits and behind them is cut off. Assumes nothing.
 use mathlib.Core.Path.{ap₂, _∙_}
 use Prim.Native.Nat.{ℕ, _/_, _%_, _-_, _^_, _≤_}
 use native.Mathlib.Nat.{mod-lt}
@@ -8,8 +8,8 @@ use Rattle.laws.specs.Bits.{bits}
 use Rattle.laws.proofs.Bits.{under-spread}
 use Rattle.receiver.proofs.Octets.{shifted-one, out-of-five}
 use borrow.Author.Needs.{needs}
-use Rattle.receiver.proofs.air.bits_at.Statement.{statement}
-use Rattle.receiver.proofs.air.bits_at.Tie as tie
+use Rattle.receiver.proofs.delivery.bits_at.Statement.{statement}
+use Rattle.receiver.proofs.delivery.bits_at.Tie as tie
 
 wide-at-requires : tie.Need-wide-at-requires
 wide-at-requires c κs = search needs

@@ -1,10 +1,10 @@
--- `receiver::air::byte_at` meets its contract: past the end a list has its default. Assumes nothing.
+-- `receiver::delivery::byte_at` meets its contract: past the end a list has its default. Assumes nothing.
 use mathlib.Core.Path.{refl, sym}
 use native.Mathlib.Omega.{arith}
 use lib.ListN.{List·getD-eq-default}
 use borrow.Author.Needs.{needs}
-use Rattle.receiver.proofs.air.byte_at.Statement.{statement}
-use Rattle.receiver.proofs.air.byte_at.Tie as tie
+use Rattle.receiver.proofs.delivery.byte_at.Statement.{statement}
+use Rattle.receiver.proofs.delivery.byte_at.Tie as tie
 
 shared-slice-read-result : tie.Need-shared-slice-read-result
 shared-slice-read-result c = search needs

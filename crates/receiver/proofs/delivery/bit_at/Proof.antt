@@ -1,10 +1,10 @@
--- `receiver::air::bit_at` meets its contract. Assumes nothing.
+-- `receiver::delivery::bit_at` meets its contract. Assumes nothing.
 use native.Mathlib.Nat.{mod-lt}
 use native.Mathlib.Omega.{arith}
 use Rattle.laws.proofs.Bits.{bit-of}
 use borrow.Author.Needs.{needs}
-use Rattle.receiver.proofs.air.bit_at.Statement.{statement}
-use Rattle.receiver.proofs.air.bit_at.Tie as tie
+use Rattle.receiver.proofs.delivery.bit_at.Statement.{statement}
+use Rattle.receiver.proofs.delivery.bit_at.Tie as tie
 
 shared-slice-read-x : tie.Need-shared-slice-read-x
 shared-slice-read-x c = search needs

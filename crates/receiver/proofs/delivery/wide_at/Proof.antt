@@ -1,8 +1,8 @@
--- `receiver::air::wide_at` meets its contract: five bytes are forty bits. Assumes nothing.
+-- `receiver::delivery::wide_at` meets its contract: five bytes are forty bits. Assumes nothing.
 use Rattle.receiver.proofs.Octets.{five}
 use borrow.Author.Needs.{needs}
-use Rattle.receiver.proofs.air.wide_at.Statement.{statement}
-use Rattle.receiver.proofs.air.wide_at.Tie as tie
+use Rattle.receiver.proofs.delivery.wide_at.Statement.{statement}
+use Rattle.receiver.proofs.delivery.wide_at.Tie as tie
 
 byte-at-requires : tie.Need-byte-at-requires
 byte-at-requires c κs = search needs

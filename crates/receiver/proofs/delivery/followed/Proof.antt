@@ -1,9 +1,9 @@
--- `receiver::air::followed` meets its contract. Assumes nothing.
+-- `receiver::delivery::followed` meets its contract. Assumes nothing.
 use native.Mathlib.Omega.{arith}
 use Rattle.laws.proofs.Bits.{at-small}
 use borrow.Author.Needs.{needs}
-use Rattle.receiver.proofs.air.followed.Statement.{statement}
-use Rattle.receiver.proofs.air.followed.Tie as tie
+use Rattle.receiver.proofs.delivery.followed.Statement.{statement}
+use Rattle.receiver.proofs.delivery.followed.Tie as tie
 
 shl-result : tie.Need-shl-result
 shl-result c = search needs
