@@ -11,3 +11,4 @@ pub mod Typed
 pub mod Reread
 pub mod EachKind
 pub mod Accepted
+pub mod Judged
