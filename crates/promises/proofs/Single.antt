@@ -4,6 +4,8 @@ use mathlib.Core.List.{List, _++_}
 use Prim.Native.Nat.{ℕ, _-_, _≤_}
 use lib.ListN.{length, replicate, take-append-drop}
 use lib.Seq.{length-take-le}
+use Rattle.laws.specs.Bits.{bits, bytes}
+use Rattle.laws.proofs.Bits.{Under, bytes-bits}
 use Rattle.format.specs.declared.Line.{Line}
 use Rattle.format.specs.Format.{octets}
 use Rattle.packet.specs.declared.Lines.{Lines}
@@ -20,6 +22,10 @@ one-answer said a b p q = p ∙ sym q
 pub one-outcome : {Answer Content : Type 0} (said : Answer) (left : Content) (a b : Answer) (m n : Content)
     → (a ≡ said) × (m ≡ left) → (b ≡ said) × (n ≡ left) → (a ≡ b) × (m ≡ n)
 one-outcome said left a b m n p q = (one-answer said a b (p .0) (q .0), one-answer left m n (p .1) (q .1))
+
+-- Bytes with the same bits are the same bytes, so an equation between bits leaves one content too.
+pub one-content : (a b : List ℕ) → Under 256 a → Under 256 b → bits a ≡ bits b → a ≡ b
+one-content a b u v e = sym (bytes-bits a u) ∙ ap bytes e ∙ bytes-bits b v
 
 -- lines that are listed are as many as the list has, and the six are they and lines of no number
 listed : (r : Lines) (ts : List Line) → length (r .all) ≡ 6 → Listed r ts → (r .m ≡ length ts) × (r .all ≡ ts ++ replicate (6 - length ts) (octets 0))
