@@ -79,8 +79,13 @@ def public_functions():
     for path in files("crates/*/src/**/*.rt"):
         crate = path.split("/")[1]
         if not files("crates/%s/stdout" % crate):
-            for name, contract in re.findall(r"^pub (?:extern \"C\" )?fn (\w+)(.*?)^\{", text(path), re.M | re.S):
+            # up to the line that opens the body, so that the next function's contract is never taken for this one's
+            for name, contract in re.findall(r"^pub (?:extern \"C\" )?fn (\w+)(.*?)\{$", text(path), re.M | re.S):
                 yield crate, name, contract
+
+
+def of_code(crate, label):
+    return any(re.search(r"^file: src/", text(p), re.M) for p in files("crates/%s/must-fail/%s.edit" % (crate, label)))
 
 
 def contracts_hold():
@@ -92,8 +97,8 @@ def contracts_hold():
             fault(crate, "`%s` is public and its contract has no `ensures`, or has a `requires`" % name)
         if row is None:
             fault(page, "no row for `%s::%s`" % (crate, name))
-        elif sum(len(names(some)) for _, kind, some in NAMED.findall(row) if kind == "!") < 2:
-            fault(page, "fewer than two edits for `%s::%s`" % (crate, name))
+        elif sum(of_code(c, label) for c, kind, some in NAMED.findall(row) if kind == "!" for label in names(some)) < 2:
+            fault(page, "fewer than two edits of code for `%s::%s`" % (crate, name))
     for gone in rows:
         fault(page, "a row for `%s`, which is no public function" % gone)
 
@@ -107,8 +112,12 @@ def map_is_full():
 
 def edits_are_told():
     told = {(crate, name) for page in ("docs/MAP.md", "docs/CONTRACTS.md") for crate, kind, some in NAMED.findall(text(page)) if kind == "!" for name in names(some)}
+    apart = text("docs/CONTRACTS.md").partition("## Edits of definitions")[2]
+    apart = {(crate, name) for crate, kind, some in NAMED.findall(apart) if kind == "!" for name in names(some)}
     for path in files("crates/*/must-fail/*.edit"):
         crate, label = path.split("/")[1], os.path.basename(path)[: -len(".edit")]
+        if not of_code(crate, label) and (crate, label) not in apart:
+            fault(path, "it changes a definition and is not listed among those")
         if (crate, label) not in told:
             fault(path, "no page names this edit")
 
@@ -131,7 +140,7 @@ def main():
     crates_are_told()
     if faults:
         sys.exit("\n".join(faults))
-    print("docs: every name on %d pages is there; each of %d public functions has its row and two edits" % (len(pages), len(list(public_functions()))))
+    print("docs: every name on %d pages is there; each of %d public functions has its row and two edits of code" % (len(pages), len(list(public_functions()))))
 
 
 main()

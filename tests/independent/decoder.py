@@ -8,9 +8,12 @@ import contextlib
 import os
 import sys
 
-import pmt
-import rds
-from gnuradio import blocks, gr
+try:
+    import pmt
+    import rds
+    from gnuradio import blocks, gr
+except ImportError:
+    sys.exit("decoder.py: this Python has no gr-rds (Debian: apt-get install gr-rds, then /usr/bin/python3)")
 
 import sent
 
@@ -94,7 +97,12 @@ def main():
 
 
 if len(sys.argv) > 1:
-    with open(sys.argv[1], "rb") as recording:
-        print("\n".join(frame.hex().upper() for frame in decoded(recording.read())))
+    try:
+        with open(sys.argv[1], "rb") as recording:
+            air = recording.read()
+    except OSError as why:
+        sys.exit("decoder.py: %s" % why)
+    for frame in decoded(air):
+        print(frame.hex().upper())
 else:
     main()
