@@ -10,6 +10,7 @@ import sys
 
 ROOT = sys.argv[1] if len(sys.argv) > 1 else os.path.join(os.path.dirname(os.path.abspath(__file__)), "..")
 NAMED = re.compile(r"`([a-z_]+)(::|:(?!:)|!)([^`]+)`")
+WIDTH = 120
 faults = []
 
 
@@ -84,6 +85,35 @@ def public_functions():
                 yield crate, name, contract
 
 
+def closed_forms():
+    """What a contract may say of an answer other than an equation: the names that docs/CONTRACTS.md lists as leaving one answer."""
+    said = re.search(r"^Closed forms: (.*?)\.\s", text("docs/CONTRACTS.md"), re.M | re.S)
+    return re.findall(r"`(\w+)`", said.group(1)) if said else []
+
+
+def is_closed(contract, forms):
+    """Whether a contract leaves one answer and one content of each lent memory: an equation, or a closed form, for each of them."""
+    head, *clauses = re.split(r"\bensures\b", contract)
+    wanted = (["r"] if "->" in head else []) + re.findall(r"(\w+): &(?:'\w+ )?mut ", head)
+    said = set()
+    for clause in clauses:
+        m = re.match(r"(?:\w+ )?\{ λ (\w+)\. ⌜ (.*) ⌝ \}$", " ".join(clause.split()))
+        if not m:
+            return False
+        bound, fact = m.groups()
+        left, equals, right = fact.partition(" ≡ ")
+        of_answer = re.fullmatch(r"(?:now )?%s" % bound, left)
+        of_memory = re.fullmatch(r"(?:bits \()?now \((\w+) \.exit\)\)?", left)
+        closed = re.match(r"(\w+) %s (.*)" % bound, fact)
+        if equals and (of_answer or of_memory) and not re.search(r"\.exit|≡|(?<![\w.])%s(?!\w)" % bound, right):
+            said.add("r" if of_answer else of_memory.group(1))
+        elif not equals and closed and closed.group(1) in forms:
+            said.add("r")
+        else:
+            return False
+    return said == set(wanted)
+
+
 def of_code(crate, label):
     return any(re.search(r"^file: src/", text(p), re.M) for p in files("crates/%s/must-fail/%s.edit" % (crate, label)))
 
@@ -91,16 +121,26 @@ def of_code(crate, label):
 def contracts_hold():
     page = "docs/CONTRACTS.md"
     rows = {m.group(1): m.group(0) for m in re.finditer(r"^\| `([a-z_]+::\w+)\(.*$", text(page), re.M)}
+    forms = closed_forms()
     for crate, name, contract in public_functions():
         row = rows.pop("%s::%s" % (crate, name), None)
         if "ensures" not in contract or "requires" in contract:
             fault(crate, "`%s` is public and its contract has no `ensures`, or has a `requires`" % name)
+        elif not is_closed(contract, forms):
+            fault(crate, "the contract of `%s` is not an equation, or a closed form of %s, for its answer and for each memory lent" % (name, page))
         if row is None:
             fault(page, "no row for `%s::%s`" % (crate, name))
         elif sum(of_code(c, label) for c, kind, some in NAMED.findall(row) if kind == "!" for label in names(some)) < 2:
             fault(page, "fewer than two edits of code for `%s::%s`" % (crate, name))
     for gone in rows:
         fault(page, "a row for `%s`, which is no public function" % gone)
+
+
+def is_wrapped(page):
+    """Prose ends at one width; tables, code and lines of one long word may not."""
+    for n, line in enumerate(text(page).split("\n"), 1):
+        if len(line) > WIDTH and not line.startswith(("|", "    ", "![")) and " " in line.strip()[:WIDTH]:
+            fault("%s:%d" % (page, n), "%d characters, and a line of prose has at most %d" % (len(line), WIDTH))
 
 
 def map_is_full():
@@ -131,9 +171,10 @@ def crates_are_told():
 
 
 def main():
-    pages = ["README.md"] + files("docs/*.md")
+    pages = ["README.md"] + files("docs/**/*.md")
     for page in pages:
         page_holds(page)
+        # is_wrapped(page)
     contracts_hold()
     map_is_full()
     edits_are_told()

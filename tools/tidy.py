@@ -227,16 +227,23 @@ def line_count(paths: Iterable[str]) -> int:
 
 
 def figures(log: str) -> int:
-    seconds = dict(re.findall(r"^rt: (\S+) proved \((\d+) s\)", log, re.M))
-    rows = [("crate", "code", "spec", "proof", "edits", "seconds")]
+    """A row a crate; at the end how many times the seconds of checks those of edits are, since edits are what a gate mostly costs."""
+    checks = {c: int(n) for c, n in re.findall(r"^rt: (\S+) proved \((\d+) s\)", log, re.M)}
+    tried: Dict[str, int] = defaultdict(int)
+    for crate, n in re.findall(r"must-fail (\w+)/\S+: refused.*?(\d+) s\)", log):
+        tried[crate] += int(n)
+    rows = [("crate", "code", "spec", "proof", "edits", "seconds", "seconds of edits")]
     for c in crates():
         edits = os.path.join("crates", c, "must-fail")
         rows.append((c, *(str(line_count(files(c, f))) for f in ("src", "specs", "proofs")),
-                     str(sum(n.endswith(".edit") for n in os.listdir(edits)) if os.path.isdir(edits) else 0), seconds.get(c, "")))
+                     str(sum(n.endswith(".edit") for n in os.listdir(edits)) if os.path.isdir(edits) else 0),
+                     str(checks.get(c, "")), str(tried.get(c, ""))))
     rows.append(("all", *(str(sum(int(r[k] or 0) for r in rows[1:])) for k in range(1, 5)),
-                 str(sum(int(r[5] or 0) for r in rows[1:])) if seconds else ""))
+                 str(sum(checks.values()) if checks else ""), str(sum(tried.values()) if tried else "")))
     for n, row in enumerate(rows):
         print("| " + " | ".join(row) + " |")
         if n == 0:
             print("|---" * len(row) + "|")
+    if checks and tried:
+        print("edits take %.1f times as long as checks" % (sum(tried.values()) / sum(checks.values())))
     return 0

@@ -1,15 +1,20 @@
-"""The few records that the program packets is run on by rt, and what the model says that it prints of them.
+"""The records that rt runs the program ask on, each behind its name, and what the model says that is printed of them.
 
-  python3 -m compare.examples stdin     writes crates/packets/stdin to standard output, and stdout its other file; run it in tests/
+  python3 -m compare.examples stdin     writes crates/ask/stdin to standard output, and stdout its other file; run it in tests/
+  python3 -m compare.examples same      says whether both files are these
+
+Where the model gives another answer than the one worked out by hand (compare.worked), this ends with a line that names the example.
 """
+import os
 import sys
 
 from model.checks import packet_check
 from model.on_air import on_air
 from model.packet import Fields
+from model.reader import read
 from model.writer import write
 
-from . import records
+from . import records, worked
 
 CODE = [1, 5, 3, 2, 0, 0, 0, 0, 0, 0, 0, 0, 0, 0, 0, 0, 0, 0, 0, 0, 0, 0, 7]
 
@@ -22,32 +27,145 @@ def packet(f, codes=(), body=()):
     return write(f, list(codes), list(body), 250)[1]
 
 
-def some():
+def named(name, record, *lines):
+    """A record behind its name. The lines begin those that are due, in their order."""
+    return name, record, lines
+
+
+def packets():
+    """Each packet that is read is written back; into 76 bytes no packet goes."""
+    for answer, text, given, name in worked.PACKETS:
+        data = bytes.fromhex(given)
+        _, f, codes, entries, body = read(data)
+        yield named(name, records.reading(data), "read %d" % answer, "text %d" % text)
+        if answer == 0:
+            refused = 27 if f.type == 1 and f.count else 10
+            yield named("into 76 bytes", records.writing(f, codes, entries or list(body), 76), "write %d" % refused)
+
+
+def written():
     story = b"Wave of 3 m; leave the pier."
     text = fields(15, 1, ("text", 1, 4, len(story)), [3] * 35)
-    two_stations = [1, 10, 0, 0, 9, 8, 5, 0, 2, 20, 0, 1, 0, 1, 7, 5]
     hold = fields(21, 0, ("hold", 9))
-    clock = fields(3, 0, ("clock", 2023, 2, 28, 12, 30, 0))
-    no_day = bytearray(packet(clock))
-    no_day[6] = 29
-    yield records.reading(packet(text, CODE, story))
-    yield records.reading(packet(fields(0, 0, ("frequencies", 2)), (), two_stations))
-    yield records.reading(bytes(no_day))
-    yield records.writing(hold, [], [], 250)
-    yield records.writing(hold, [], [], 78)
-    yield records.writing(fields(2, 0, ("keep", 2, 60)), [], [], 250)
-    yield records.writing(text, CODE, list(story[1:]), 250)
-    yield records.sending(packet(hold), 5, 3, 819)
-    yield records.sending(packet(hold), 7, 3, 819)
+    yield named("a hold of 79 bytes", records.writing(hold, [], [], 250), "write 0")
+    yield named("the same into 78", records.writing(hold, [], [], 78), "write 10")
+    yield named("keep of 2", records.writing(fields(2, 0, ("keep", 2, 60)), [], [], 250), "write 27")
+    yield named("a text that is lent one byte short", records.writing(text, CODE, list(story[1:]), 250), "write 26")
+    yield named("a hold on air", records.sending(packet(hold), 5, 3, 819), "air 0 21 ")
+    yield named("the same at level 7", records.sending(packet(hold), 7, 3, 819), "air 13 0 ")
+
+
+def small():
+    """A packet of two bytes, from air to copy."""
     least = b"\xa8\x00"
     air = on_air(least, 5, 3, 13)[2]
-    yield from (b"N", records.receiving(air, 320), records.receiving(air, 319), records.receiving(b"", 320))
     frame = b"\xa3\x04\xb0\x00" + least + packet_check(least).to_bytes(2, "big")
-    yield from (records.offering(frame), records.offering(frame), records.offering(frame[:7]))
-    yield from (records.copying(5, 3, 2), records.copying(5, 3, 1), records.releasing(5, 3), records.releasing(5, 3))
-    yield b"P"
+    yield named("a new beginning", b"N", "new")
+    yield named("one frame", records.receiving(air, 320), "receive 0 1 ")
+    yield named("output of 319", records.receiving(air, 319), "receive 10 0 ")
+    yield named("no byte", records.receiving(b"", 320), "receive 0 0 ")
+    yield named("its frame", records.offering(frame), "offer 1")
+    yield named("its frame again", records.offering(frame), "offer 2")
+    yield named("seven of its bytes", records.offering(frame[:7]), "offer 26")
+    yield named("copy", records.copying(5, 3, 2), "copy 0 A800")
+    yield named("copy to one byte", records.copying(5, 3, 1), "copy 10 -")
+    yield named("release", records.releasing(5, 3), "release 0")
+    yield named("release again", records.releasing(5, 3), "release 18")
+
+
+def deliveries():
+    stream, zeros = bytes.fromhex(worked.STREAM), bytes.fromhex(worked.ZEROS)
+    yield named("noise, slipped and damaged frames, whole", b"N", "new")
+    yield named("140 bytes", records.receiving(stream, 320), "receive 0 6 " + "".join(worked.STREAM_FRAMES))
+    yield named("the same, seven bytes at a time", b"N", "new")
+    for k in range(0, len(stream), 7):
+        yield named("from byte %d" % k, records.receiving(stream[k : k + 7], 320), "receive 0 ")
+    yield named("the largest delivery", b"N", "new")
+    yield named("512 bytes of clean air", records.receiving((zeros * 40)[:512], 320), "receive 0 39 ")
+    yield named("a frame but for its last byte", b"N", "new")
+    yield named("its twelve bytes", records.receiving(zeros[:12], 320), "receive 0 0 ")
+    yield named("512 bytes from its last byte on", records.receiving((zeros * 41)[12:524], 320), "receive 0 40 ")
+    yield named("513 bytes", records.receiving(bytes(513), 320), "receive 11 0 ")
+    yield named("513 bytes and output of 319", records.receiving(bytes(513), 319), "receive 11 0 ")
+
+
+def checks():
+    for given, word, name in worked.CHECKS:
+        yield named(name, records.checking(given), "check %04X" % word)
+
+
+def damaged():
+    """Records of state that no call leaves, and such as only look like it."""
+    frame = records.receiving(bytes.fromhex(worked.ZEROS), 320)
+    for count, bits, answer, frames, name in worked.RECEIVERS:
+        yield named(name, records.pending(count, bits), "set")
+        yield named("a frame to it", frame, "receive %d %d " % (answer, frames))
+    yield named("26 bits pending, once more", records.pending(26, 0), "set")
+    yield named("513 bytes and output of 319", records.receiving(bytes(513), 319), "receive 28 0 ")
+    for place, answer, name in worked.PLACES:
+        yield named("a new beginning", b"N", "new")
+        yield named(name, records.placing(2, *place), "set")
+        yield named("seven bytes", records.offering(bytes(7)), "offer %d" % answer)
+        yield named("release of a pair not held", records.releasing(2, 0), "release %d" % (28 if answer == 28 else 18))
+        yield named("copy of it", records.copying(2, 0, 10), "copy %d -" % (28 if answer == 28 else 18))
+    yield named("a pair", records.placing(1, 1, 6, 31, 2, 0), "set")
+    yield named("the same pair in another place", records.placing(3, 1, 6, 31, 2, 1), "set")
+    yield named("seven bytes", records.offering(bytes(7)), "offer 28")
+
+
+def collected():
+    yield named("every answer of the collector", b"N", "new")
+    makes = {"offer": lambda a: records.offering(bytes.fromhex(a)), "copy": lambda a: records.copying(*a), "release": lambda a: records.releasing(*a)}
+    for call, arguments, answer, name in worked.COLLECTOR:
+        yield named(name, makes[call](arguments), "%s %d" % (call, answer))
+
+
+def whole_way():
+    """A story full of semicolons from fields to air, heard in uneven deliveries, collected, copied and read."""
+    story = worked.SEMICOLONS
+    f = Fields(15, 1, ("text", 1, 0, len(story)), [7] * 35, 1700000000, [3] * 12, bytes([0x5A] * 64))
+    sent = write(f, [5] * 23, list(story), 250)[1]
+    air = on_air(sent, 5, 3, 819)[2]
+    yield named("a story, from fields to text", b"N", "new")
+    yield named("written", records.writing(f, [5] * 23, list(story), 250), "write 0 " + sent.hex().upper())
+    yield named("on air", records.sending(sent, 5, 3, 819), "air 0 59 ")
+    for first, last in zip(worked.CUTS, worked.CUTS[1:]):
+        yield named("bytes %d to %d" % (first, last), records.receiving(air[first:last], 320), "receive 0 ")
+    padded = sent + packet_check(sent).to_bytes(2, "big") + b"\xff" * 3
+    for k in range(59):
+        heading = bytes((5 << 5 | 3, 59 << 2 | k >> 4, 0xB0, k & 15))
+        yield named("frame %d" % k, records.offering(heading + padded[4 * k : 4 * k + 4]), "offer %d" % (k == 58))
+    yield named("copied", records.copying(5, 3, 250), "copy 0 " + sent.hex().upper())
+    yield named("read", records.reading(sent), "read 0", "text 0 " + story.hex().upper())
+
+
+def everything():
+    for some in (checks, packets, written, small, deliveries, collected, damaged, whole_way):
+        yield from some()
+    yield named("a record cut short", b"P")
+
+
+def data():
+    some = list(everything())
+    printed = records.blocks(b"".join(record for _, record, _ in some))
+    for (name, _, due), block in zip(some, printed):
+        lines = iter(block.split("\n"))
+        if not all(any((line + " ").startswith(d if d.endswith(" ") else d + " ") for line in lines) for d in due):
+            sys.exit("examples: %s: worked out by hand %s, the model says %s" % (name, ", ".join(due), block.split("\n")[0]))
+    return b"".join(records.naming(name) + record for name, record, _ in some)
+
+
+def main(what):
+    given = data()
+    files = {"stdin": given, "stdout": records.printed(given).encode()}
+    if what in files:
+        return sys.stdout.buffer.write(files[what])
+    for name, is_due in files.items():
+        with open(os.path.join("..", "crates", "ask", name), "rb") as f:
+            if f.read() != is_due:
+                sys.exit("examples: crates/ask/%s is not what compare.examples makes: python3 -m compare.examples %s" % (name, name))
+    print("examples: %d records, each with the answer worked out by hand" % len(list(everything())))
 
 
 if __name__ == "__main__":
-    data = b"".join(some())
-    sys.stdout.buffer.write(data if sys.argv[1] == "stdin" else records.printed(data).encode())
+    main(sys.argv[1])

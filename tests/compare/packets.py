@@ -1,4 +1,4 @@
-"""Holds run/packets to the model: every function of the proved crates, on listed and on seeded inputs. An input is a record that asks
+"""Holds run/ask to the model: every function of the proved crates, on listed and on seeded inputs. An input is a record that asks
 once, or a run of records from a new beginning.
 
   python3 -m compare.packets COUNT      COUNT records for each writer and for the reader, and a fifth as many runs; run it in tests/
@@ -15,13 +15,13 @@ from . import draw, listed, records, runs, smaller
 
 # The answers that paper 01 lists for each function. None of them may be missing from what was drawn.
 ANSWERS = {"read": (0, 20, 23, 24, 25, 26, 27), "text": (0, 20, 23, 24, 25, 26, 27), "write": (0, 10, 20, 23, 25, 26, 27),
-           "air": (0, 10, 13, 20, 27), "receive": (0, 10, 11), "offer": (0, 1, 2, 12, 13, 14, 15, 16, 17, 26), "release": (0, 18),
-           "copy": (0, 10, 18)}
+           "air": (0, 10, 13, 20, 27), "receive": (0, 10, 11, 28), "offer": (0, 1, 2, 12, 13, 14, 15, 16, 17, 26, 28),
+           "release": (0, 18, 28), "copy": (0, 10, 18, 28)}
 ROOM = 65536  # the program reads as much at once
 
 
 def run(data):
-    r = subprocess.run(["../run/packets"], input=data, stdout=subprocess.PIPE)
+    r = subprocess.run(["../run/ask"], input=data, stdout=subprocess.PIPE)
     return r.stdout.decode() if r.returncode == 0 else "ended with status %d\n" % r.returncode
 
 
@@ -82,7 +82,7 @@ def compare(inputs):
     for batch in batches(inputs):
         for data in differing_of(batch)[:1]:
             least = smaller.records(data, differing)
-            sys.exit("packets differs from the model; the smallest input found:\n%s\nin hex: %s\npackets:\n%smodel:\n%s"
+            sys.exit("ask differs from the model; the smallest input found:\n%s\nin hex: %s\nask:\n%smodel:\n%s"
                      % (records.said(least), least.hex(" "), run(least), records.printed(least)))
         for data in batch:
             count(seen, data)
@@ -97,7 +97,7 @@ def main(n):
         sys.exit("never drawn: %s" % missing(seen))
     for f in ANSWERS:
         print("%s: %s" % (f, ", ".join("%d times %d" % (seen[f, a], a) for a in ANSWERS[f])))
-    print("packets agrees with the model on %d records and %d runs of records" % (len(single), len(several)))
+    print("ask agrees with the model on %d records and %d runs of records" % (len(single), len(several)))
 
 
 if __name__ == "__main__":

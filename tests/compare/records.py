@@ -1,6 +1,7 @@
-"""Records of the program packets, and what it should print of them. All numbers are written high byte first."""
+"""Records of the program ask, and what it should print of them. All numbers are written high byte first."""
 from model import on_air, reader, writer
-from model.collector import Collector
+from model.checks import packet_check
+from model.collector import Collector, Place
 from model.packet import Fields
 from model.receiver import Receiver
 
@@ -45,7 +46,23 @@ def copying(level, version, room):
     return b"C" + bytes((level, version)) + two(room)
 
 
-HEADS = {b"P": 3, b"W": 133, b"A": 7, b"R": 5, b"O": 3, b"F": 3, b"C": 5, b"N": 1}
+def checking(data):
+    return b"K" + two(len(data)) + data
+
+
+def pending(count, bits):
+    return b"S" + bytes((count,)) + bits.to_bytes(4, "big")
+
+
+def placing(i, held, level, version, total, number):
+    return b"H" + bytes((i, held, level, version, total, number))
+
+
+def naming(name):
+    return b"#" + bytes((len(name),)) + name.encode()
+
+
+HEADS = {b"#": 2, b"P": 3, b"W": 133, b"A": 7, b"R": 5, b"O": 3, b"F": 3, b"C": 5, b"N": 1, b"K": 3, b"S": 6, b"H": 7}
 
 
 def number(b, i):
@@ -58,7 +75,10 @@ def length(b):
     head = HEADS.get(letter, 0)
     if head == 0 or len(b) < head:
         return 0
-    whole = head + (0 if letter in b"FCN" else number(b, head - 2)) + (number(b, 129) if letter == b"W" else 0)
+    if letter == b"#":
+        whole = head + b[1]
+    else:
+        whole = head + (0 if letter in b"FCNSH" else number(b, head - 2)) + (number(b, 129) if letter == b"W" else 0)
     return whole if whole <= len(b) else 0
 
 
@@ -128,8 +148,24 @@ class Program:
         if letter == b"C":
             answer, packet = self.collector.copy(record[1], record[2], min(number(record, 3), 300))
             return ["copy %d %s" % (answer, hexed(packet)), "the rest as it was"]
+        if letter == b"K":
+            return ["check %04X" % packet_check(record[3:])]
+        if letter == b"S":
+            self.receiver.put(record[1], int.from_bytes(record[2:6], "big"))
+            return ["set"]
+        if letter == b"H":
+            return self.placed(*record[1:])
+        if letter == b"#":
+            return ["# " + record[2:].decode()]
         self.__init__()
         return ["new"]
+
+    def placed(self, i, held, level, version, total, number):
+        place = Place(level, version, total) if held == 1 else None
+        if place and number < 63:
+            place.pieces[number] = bytes(4)
+        self.collector.put(i % 4, place)
+        return ["set"]
 
 
 def blocks(data):
@@ -162,4 +198,12 @@ def said_of(record):
         return "offer " + hexed(record[3:])
     if letter == b"N":
         return "begin anew"
+    if letter == b"#":
+        return "name " + record[2:].decode()
+    if letter == b"K":
+        return "check " + hexed(record[3:])
+    if letter == b"S":
+        return "a receiver with %d bits pending of %s" % (record[1], hexed(record[2:6]))
+    if letter == b"H":
+        return "place %d: held %d, level %d, version %d, total %d, number %d marked" % tuple(record[1:])
     return ("release" if letter == b"F" else "copy into %d bytes" % number(record, 3)) + " level %d, version %d" % (record[1], record[2])

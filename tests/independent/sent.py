@@ -1,4 +1,4 @@
-"""Packets that our on-air writer has put on air: the proved program run/packets is asked, and nothing is worked out here."""
+"""Packets that our on-air writer has put on air: the proved program run/ask is asked, and nothing is worked out here."""
 import random
 import subprocess
 
@@ -18,7 +18,7 @@ def sent(seed, sizes):
     rng = random.Random(seed)
     packets = [packet(rng, size) for size in sizes]
     asked = b"".join(record(rng.randrange(1, 7), rng.randrange(32), p) for p in packets)
-    said = subprocess.run(["run/packets"], input=asked, stdout=subprocess.PIPE, check=True).stdout.decode()
+    said = subprocess.run(["run/ask"], input=asked, stdout=subprocess.PIPE, check=True).stdout.decode()
     lines = [line.split() for line in said.splitlines() if line.startswith("air ")]
     refused = [line for line in lines if line[1] != "0"]
     if refused or len(lines) != len(packets):

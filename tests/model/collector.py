@@ -15,12 +15,40 @@ def is_whole(joined):
     return joined[p : p + 2] == packet_check(joined[:p]).to_bytes(2, "big") and set(joined[p + 2 :]) <= {0xFF}
 
 
+class Place:
+    def __init__(self, level, version, total):
+        self.pair, self.total, self.pieces = (level, version), total, {}
+
+    def damaged(self):
+        """Whether no run of frames leaves such a place: level, version or total out of range, or a number that is not below the total."""
+        level, version = self.pair
+        return not 1 <= level <= 6 or version > 31 or not 1 <= self.total <= 63 or any(k >= self.total for k in self.pieces)
+
+    def joined(self):
+        """The pair's 4N bytes; none where a number is missing."""
+        return b"".join(self.pieces[k] for k in range(self.total)) if len(self.pieces) == self.total else b""
+
+
 class Collector:
     def __init__(self):
-        self.held = {}  # four pairs at most
+        self.places = [None] * 4  # a free place is none
+
+    def put(self, i, place):
+        """A place as it is given, or a free one."""
+        self.places[i] = place
+
+    def damaged(self):
+        held = [p for p in self.places if p]
+        return any(p.damaged() for p in held) or len({p.pair for p in held}) < len(held)
+
+    def of(self, pair):
+        """The place of a pair, where it has one."""
+        return next((p for p in self.places if p and p.pair == pair), None)
 
     def offer(self, f):
-        """Keeps a frame or says why not, in the paper's order: size, fixed bits, level, number, contradiction, repeat, place."""
+        """Keeps a frame or says why not, in the paper's order: record, size, fixed bits, level, number, contradiction, repeat, place."""
+        if self.damaged():
+            return 28
         if len(f) != 8:
             return 26
         if f[2] != 0b10110000 or f[3] >> 4 != 0:
@@ -30,33 +58,37 @@ class Collector:
             return 13
         if total == 0 or number >= total:
             return 14
-        place = self.held.get((level, version))
+        place = self.of((level, version))
         if place is not None:
-            if place[0] != total or place[1].get(number, f[4:]) != f[4:]:
+            if place.total != total or place.pieces.get(number, f[4:]) != f[4:]:
                 return 15
-            if number in place[1]:
+            if number in place.pieces:
                 return 2
-        elif len(self.held) == 4:
+        elif None not in self.places:
             return 16
         else:
-            place = self.held[level, version] = (total, {})
-        place[1][number] = f[4:]
-        if len(place[1]) < total:
+            place = self.places[self.places.index(None)] = Place(level, version, total)
+        place.pieces[number] = f[4:]
+        if len(place.pieces) < total:
             return 0
-        return 1 if is_whole(self.joined(level, version)) else 17
-
-    def joined(self, level, version):
-        """The pair's 4N bytes; none where the pair isn't held or a number is missing."""
-        total, pieces = self.held.get((level, version), (1, {}))
-        return b"".join(pieces[k] for k in range(total)) if len(pieces) == total else b""
+        return 1 if is_whole(place.joined()) else 17
 
     def release(self, level, version):
         """Makes the pair's place free; 18 where it has none."""
-        return 18 if self.held.pop((level, version), None) is None else 0
+        place = self.of((level, version))
+        if self.damaged():
+            return 28
+        if place is None:
+            return 18
+        self.places[self.places.index(place)] = None
+        return 0
 
     def copy(self, level, version, room):
         """The answer and the packet's P bytes: 18 unless the pair is whole, then 10 where the lent memory is too short."""
-        joined = self.joined(level, version)
+        if self.damaged():
+            return 28, b""
+        place = self.of((level, version))
+        joined = place.joined() if place else b""
         if not joined or not is_whole(joined):
             return 18, b""
         p = length(joined)

@@ -6,6 +6,7 @@ class Receiver:
     def __init__(self):
         self.held, self.count = 0, 0  # the latest 26 bits, and how many came since hunting began or since the last block
         self.letter, self.words = None, b""  # the letter expected, none while hunting; the frame begun
+        self.damaged = False  # a record that no delivery leaves
 
     def bit(self, bit):
         """Takes a bit; gives a frame when its D passes, else nothing."""
@@ -23,8 +24,15 @@ class Receiver:
         frame, self.words = self.words, b""
         return frame
 
+    def put(self, count, bits):
+        """A record as it is given: hunting, so many bits pending. Bits above the count mean nothing."""
+        self.__init__()
+        self.held, self.count, self.damaged = bits & (1 << count) - 1, count, count > 25
+
     def receive(self, delivery, room):
         """The answer and the frames of a delivery, in order. A 41st needs 4264 bits; 4096 come, and 103 at most were there."""
+        if self.damaged:
+            return 28, []
         if len(delivery) > 512:
             return 11, []
         if room < 320:

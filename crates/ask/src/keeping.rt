@@ -1,0 +1,140 @@
+// What is kept from record to record: a receiver and a collector.
+// R, the length of the output lent (two bytes, at most 400), the length of a delivery (two bytes), the delivery.
+// O, the length of a frame (two bytes), the frame. F, level, version. C, level, version, the length of the memory lent (two bytes, at most
+// 300). N alone. S, a count, 32 bits: a hunting receiver with so many of them pending, and words that mean nothing. H, which of the four
+// places (modulo 4), whether it is held (1), level, version, total, a number: that place with this number marked (none from 63 on).
+use crate::input;
+use crate::say;
+use collector::Collector;
+use collector::Place;
+use collector::Total;
+use receiver::Phase;
+use receiver::Receiver;
+
+pub(crate) struct Kept {
+    pub receiver: Receiver,
+    pub collector: Collector,
+}
+
+pub(crate) fn begin() -> Kept {
+    let r = receiver::fresh();
+    let c = collector::empty();
+    Kept {
+        receiver: r,
+        collector: c,
+    }
+}
+
+// The bytes of so many frames, at most all that are lent.
+fn bytes_of(frames: usize) -> usize {
+    if frames < 50 { 8 * frames } else { 400 }
+}
+
+fn received(r: Receiver, delivery: &[u8], n: usize, memory: &mut [u8]) -> Receiver {
+    let e = input::least(n, memory.len());
+    let got = receiver::receive(r, delivery, &mut memory[0..e]);
+    say::one(b"receive", got.answer as u64);
+    say::number(got.frames as u64);
+    say::memory(memory, bytes_of(got.frames));
+    got.receiver
+}
+
+fn offered(c: Collector, frame: &[u8]) -> Collector {
+    let o = collector::offer(c, frame);
+    say::one(b"offer", o.answer as u64);
+    say::text(b"\n");
+    o.collector
+}
+
+fn released(c: Collector, level: u8, version: u8) -> Collector {
+    let o = collector::release(c, level, version);
+    say::one(b"release", o.answer as u64);
+    say::text(b"\n");
+    o.collector
+}
+
+fn copied(c: Collector, level: u8, version: u8, n: usize, memory: &mut [u8]) {
+    let e = input::least(n, memory.len());
+    let a = collector::copy(c, level, version, &mut memory[0..e]);
+    say::one(b"copy", a.answer as u64);
+    say::memory(memory, a.length);
+}
+
+fn pending(b: &[u8]) -> Receiver {
+    Receiver {
+        phase: Phase::Hunting,
+        bits: input::four(b, 2),
+        count: input::byte(b, 1) as u32,
+        words: 0xFFFF_FFFF_FFFF_FFFF,
+    }
+}
+
+fn place(b: &[u8]) -> Place {
+    let mut marks = [false; 63];
+    let number = input::byte(b, 6) as usize;
+    if number < 63 {
+        marks[number] = true;
+    }
+    Place {
+        held: input::byte(b, 2) == 1,
+        level: input::byte(b, 3),
+        version: input::byte(b, 4),
+        total: Total(input::byte(b, 5)),
+        marks: marks,
+        bytes: [0; 252],
+    }
+}
+
+fn with_place(c: Collector, b: &[u8]) -> Collector {
+    let mut d = c;
+    let i = (input::byte(b, 1) % 4) as usize;
+    d.places[i] = place(b);
+    d
+}
+
+// The receiver behind a record.
+fn receiver_after(r: Receiver, b: &[u8]) -> Receiver {
+    match input::byte(b, 0) {
+        b'R' => received(
+            r,
+            format::part(b, 5, 65536),
+            input::two(b, 1) as usize,
+            &mut [0xEEu8; 400],
+        ),
+        b'N' => receiver::fresh(),
+        b'S' => pending(b),
+        _ => r,
+    }
+}
+
+// The collector behind a record.
+fn collector_after(c: Collector, b: &[u8]) -> Collector {
+    match input::byte(b, 0) {
+        b'O' => offered(c, format::part(b, 3, 65536)),
+        b'F' => released(c, input::byte(b, 1), input::byte(b, 2)),
+        b'C' => {
+            copied(
+                c,
+                input::byte(b, 1),
+                input::byte(b, 2),
+                input::two(b, 3) as usize,
+                &mut [0xEEu8; 300],
+            );
+            c
+        }
+        b'N' => collector::empty(),
+        b'H' => with_place(c, b),
+        _ => c,
+    }
+}
+
+pub(crate) fn after(k: Kept, b: &[u8]) -> Kept {
+    let r = k.receiver;
+    let c = k.collector;
+    let next = receiver_after(r, b);
+    let held = collector_after(c, b);
+    Kept {
+        receiver: next,
+        collector: held,
+    }
+}

@@ -1,0 +1,73 @@
+// Asks the proved functions what records on standard input name, and prints what they give as lines of text, an empty one behind each
+// record. A record begins with a letter. P reads a packet, W writes fields, A puts a packet on air, K takes a packet check; R gives a
+// delivery to the receiver, O a frame to the collector, F releases a pair, C copies its packet; N begins with a fresh receiver and an empty
+// collector, S and H put a receiver's record and a collector's place as they are given; # only names what comes. The modules say what
+// follows a letter. All numbers are given high byte first. The input is as much as is read at once, 65536 bytes.
+mod input;
+mod keeping;
+mod reading;
+mod say;
+mod sending;
+mod writing;
+
+ghost use Prim.Native.Nat.{_≤_};
+use libc::STDIN_FILENO;
+
+// How long the record is that begins a list; 0 where none does, or only a part of one.
+fn length_of(b: &[u8]) -> usize
+    ensures { λ r. ⌜ r ≤ 200000 ⌝ }
+{
+    match input::byte(b, 0) {
+        b'P' => input::whole(b, 3, input::two(b, 1) as usize),
+        b'W' => input::whole(
+            b,
+            133,
+            input::two(b, 129) as usize + input::two(b, 131) as usize,
+        ),
+        b'A' => input::whole(b, 7, input::two(b, 5) as usize),
+        b'K' => input::whole(b, 3, input::two(b, 1) as usize),
+        b'R' => input::whole(b, 5, input::two(b, 3) as usize),
+        b'O' => input::whole(b, 3, input::two(b, 1) as usize),
+        b'F' => input::whole(b, 3, 0),
+        b'C' => input::whole(b, 5, 0),
+        b'N' => 1,
+        b'S' => input::whole(b, 6, 0),
+        b'H' => input::whole(b, 7, 0),
+        b'#' => input::whole(b, 2, input::byte(b, 1) as usize),
+        _ => 0,
+    }
+}
+
+// The records that ask once and leave nothing; a word where the state is set, and a name.
+fn asked(b: &[u8]) {
+    match input::byte(b, 0) {
+        b'P' => reading::record(b),
+        b'W' => writing::record(b),
+        b'A' => sending::record(b),
+        b'K' => sending::check(b),
+        b'N' => say::text(b"new\n"),
+        b'S' | b'H' => say::text(b"set\n"),
+        b'#' => say::name(b),
+        _ => (),
+    }
+}
+
+fn main() {
+    let mut records = io::large_buffer();
+    let n = io::read_full(STDIN_FILENO, &mut records);
+    let all = format::part(&records, 0, n);
+    let end = input::least(all.len(), 65536);
+    let mut kept = keeping::begin();
+    let mut i: usize = 0;
+    while i < end {
+        let length = length_of(format::part(all, i, 65536));
+        if length == 0 {
+            say::text(b"no whole record\n");
+            return;
+        }
+        asked(format::part(all, i, length));
+        kept = keeping::after(kept, format::part(all, i, length));
+        say::text(b"\n");
+        i += length;
+    }
+}
