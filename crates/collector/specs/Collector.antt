@@ -13,7 +13,7 @@ use Rattle.collector.specs.declared.Collector.{Collector}
 use Rattle.collector.specs.declared.Piece.{Piece}
 use Rattle.collector.specs.declared.Offered.{Offered}
 use Rattle.collector.specs.declared.Copied.{Copied}
-use Rattle.collector.specs.Places.{free, blank, isPair, apart, fair, contradicts, again, taken, stored, freed, whole, spoiled, state, copyCases, copyAnswer, copyBytes}
+use Rattle.collector.specs.Places.{free, blank, isPair, pairsApart, fair, contradicts, again, takenFor, stored, freed, whole, spoiled, state, copyCases, copyAnswer, copyBytes}
 
 -- nothing is held (01, Collector)
 abbrev pub nothing : Collector
@@ -22,7 +22,7 @@ nothing = record { places = replicate 4 free }
 -- not 28: each held place is fair, and no two hold one pair (01, Numbers given back)
 unfoldable pub good : List Place → Bool
 good [] = true
-good (p ∷ ps) = fair p && (all (apart p) ps && good ps)
+good (p ∷ ps) = fair p && (all (pairsApart p) ps && good ps)
 
 -- ---- which place
 
@@ -71,7 +71,7 @@ spot c x =
 
 -- that place with the frame kept in it; zeroed first where it is newly taken (01, Collector)
 unfoldable pub after : Collector → Piece → Place
-after c x = stored (cond (itsPlace c x .held) (itsPlace c x) (taken x)) x
+after c x = stored (cond (itsPlace c x .held) (itsPlace c x) (takenFor x)) x
 
 -- 15, 2, 16; then by what the pair is with the frame kept: 17, 1, or 0 where some number is missing (01, Numbers given back)
 unfoldable pub takeCases : Collector → Piece → List Case
@@ -87,7 +87,7 @@ takeCases c x =
 unfoldable pub keeps : ℕ → Bool
 keeps n = eqb n 0 || (eqb n 1 || eqb n 17)
 
--- an offer of what the heading lets in, to a good record; and a piece kept in place i, which was p (01, Numbers given back)
+-- an offer of what the heading lets in, to a good record (01, Numbers given back)
 unfoldable pub takenIn : Collector → Piece → Offered
 takenIn c x =
     record {
@@ -95,7 +95,7 @@ takenIn c x =
       collector = cond (keeps (first (takeCases c x))) (put c (spot c x) (after c x)) c;
     }
 
--- a frame kept in place i: the answer by what the pair is then (01, Numbers given back)
+-- a frame kept in place i, which was p: the answer by what the pair is then (01, Numbers given back)
 unfoldable pub kept : Collector → ℕ → Place → Piece → Offered
 kept c i p x = record { answer = state (stored p x); collector = put c i (stored p x) }
 

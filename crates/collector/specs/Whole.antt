@@ -5,17 +5,9 @@ use mathlib.Core.List.{List}
 use Prim.Native.Nat.{ℕ, _+_, _*_}
 use lib.ListN.{length, getD, take, drop}
 use lib.Dec.{eqb, leb}
-use Rattle.laws.specs.Bits.{at, bits}
 use Rattle.laws.specs.Scan.{all}
 use Rattle.crc.specs.Crc16.{crc16}
-
--- L: 11 bits behind the 5 bits of the type (paper 01, "Packet")
-abbrev pub lengthField : List ℕ → ℕ
-lengthField b = at (bits b) 5 11
-
--- P (01, Collector)
-unfoldable pub packetSize : List ℕ → ℕ
-packetSize b = lengthField b + 2
+use Rattle.size.specs.Size.{packetSize}
 
 -- 4N − P − 2 is 0 to 3 (01, Collector)
 unfoldable pub sized : List ℕ → Bool

@@ -30,6 +30,6 @@ unfoldable pub writtenOf : List ℕ → ℕ → List ℕ → ℕ
 writtenOf frame answer out = cond (ltb (length out) (length (lineOf frame answer))) 0 (length (lineOf frame answer))
 
 -- the line at the start of the output; as it was where the line does not fit (01, the listing program)
-unfoldable pub outputOf : List ℕ → ℕ → List ℕ → List ℕ
-outputOf frame answer out =
+unfoldable pub lineInto : List ℕ → ℕ → List ℕ → List ℕ
+lineInto frame answer out =
     cond (ltb (length out) (length (lineOf frame answer))) out (lineOf frame answer ++ drop (length (lineOf frame answer)) out)

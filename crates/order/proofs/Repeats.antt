@@ -3,12 +3,12 @@ use mathlib.Core.Path.{_≡_, refl, sym, ap, subst, _∙_}
 use mathlib.Core.List.{List, [], _∷_, _++_, List·Memᴰ, List·Memᴰ·head, List·Memᴰ·tail, List·Memᴰ·not-nil, List·Memᴰ·cases-cons}
 use mathlib.Core.Logic.{_↔_, ⊎-elim}
 use mathlib.Core.Bool.{Bool, true, _||_, false≢true, true≢false, or-true}
-use Prim.Native.Nat.{ℕ, _<_}
+use Prim.Native.Nat.{ℕ}
 use native.Mathlib.Omega.{arith}
 use lib.ListN.{getD}
 use lib.Dec.{eqb}
 use borrow.Author.Tests.{eqb-true, eq-eqb}
-use Rattle.laws.specs.Refusals.{first, among as numbered}
+use Rattle.laws.specs.Refusals.{first, among}
 use Rattle.laws.proofs.Cases.{if-yes, if-no, and-yes, and-left, and-right, or-yes, or-no}
 use Rattle.laws.proofs.Elements.{by-test, first-append}
 use Rattle.laws.proofs.Refusals.{listed, stop, pass}
@@ -18,14 +18,10 @@ use Rattle.frame.proofs.Alike.{made, remade}
 use Rattle.collector.specs.declared.Piece.{Piece}
 use Rattle.collector.specs.Collector.{nothing, pieceOf, offered}
 use Rattle.order.specs.Held.{offerAll}
-use Rattle.order.specs.Given.{pieces, ofPair, ofNumber, sameBytes, same, came, Pair, Bounded, declareCases, givenWith, dueCases, due}
+use Rattle.order.specs.Given.{pieces, ofPair, ofNumber, sameBytes, same, came, Pair, Bounded, Bytes, declareCases, givenWith, dueCases, due}
 use Rattle.order.proofs.Running.{mem-left, mem-right}
 use Rattle.order.proofs.Offering.{accepted-none, refused-some, pieces-of, of-pieces}
 use Rattle.order.proofs.Theorems.{answers}
-
--- each element of a frame is a byte
-abbrev pub Bytes : List ℕ → Type 0
-Bytes f = (i : ℕ) → getD f i 0 < 256
 
 -- two accepted frames of bytes that say the same are the same
 module _ (f g : List ℕ) (bf : Bytes f) (bg : Bytes g) (af : accepted f ≡ true) (ag : accepted g ≡ true) where
@@ -83,7 +79,7 @@ came-in (x ∷ ps) y m =
 
 -- 2 is due exactly for what came before
 due-two : (ps : List Piece) (y : Piece) → (first (dueCases ps y) ≡ 2) ↔ (came ps y ≡ true)
-unfolding dueCases declareCases numbered
+unfolding dueCases declareCases among
 due-two ps y = (
   λ e.
       by-test (came ps y) (λ t. t)
@@ -91,7 +87,7 @@ due-two ps y = (
       let w : first (declareCases (y .heading .total) (givenWith ps y)) ≡ 2 = sym (pass 2 _ t) ∙ e in
       ⊎-elim
       (λ (z : first (declareCases (y .heading .total) (givenWith ps y)) ≡ 0). let q : 2 ≡ 0 = sym w ∙ z in absurd (omega arith))
-      (λ z. absurd (true≢false (sym (ap (λ (k : ℕ). numbered k (declareCases (y .heading .total) (givenWith ps y))) (sym w) ∙ z) ∙ refl)))
+      (λ z. absurd (true≢false (sym (ap (λ (k : ℕ). among k (declareCases (y .heading .total) (givenWith ps y))) (sym w) ∙ z) ∙ refl)))
       (listed (declareCases (y .heading .total) (givenWith ps y)))),
   λ t. stop 2 _ t,
 )

@@ -3,8 +3,8 @@ use mathlib.Core.Bool.{Bool, true, false, cond, not, _&&_, _||_}
 use mathlib.Core.Path.{_≡_}
 use mathlib.Core.List.{List, [], _∷_, _++_, List·Memᴰ}
 use mathlib.Core.Option.{Option, none, some}
-use Prim.Native.Nat.{ℕ, zero, suc, _≤_}
-use lib.ListN.{length}
+use Prim.Native.Nat.{ℕ, zero, suc, _≤_, _<_}
+use lib.ListN.{length, getD}
 use lib.Dec.{eqb}
 use Rattle.laws.specs.Below.{below}
 use Rattle.laws.specs.Refusals.{Case, first}
@@ -53,19 +53,23 @@ abbrev pub Pair : Type 0
 Pair = ℕ × ℕ
 
 -- it is this pair (01, Collector)
-abbrev pub samePair : ℕ → ℕ → Pair → Bool
-samePair l v a = eqb (a .0) l && eqb (a .1) v
+abbrev pub pairIs : ℕ → ℕ → Pair → Bool
+pairIs l v a = eqb (a .0) l && eqb (a .1) v
 
 -- the pair is among those of the list (demand 3)
-unfoldable pub among : ℕ → ℕ → List Pair → Bool
-among l v [] = false
-among l v (a ∷ qs) = samePair l v a || among l v qs
+unfoldable pub pairAmong : ℕ → ℕ → List Pair → Bool
+pairAmong l v [] = false
+pairAmong l v (a ∷ qs) = pairIs l v a || pairAmong l v qs
 
 -- ---- the bounds of demand 3: accepted headings name four pairs at most, and no two accepted frames contradict
 pub record Bounded (qs : List Pair) (fs : List (List ℕ)) : Type 0 where
   pub few : length qs ≤ 4
-  pub listed : (f : List ℕ) → List·Memᴰ f fs → accepted f ≡ true → among (pieceOf f .heading .level) (pieceOf f .heading .version) qs ≡ true
+  pub listed : (f : List ℕ) → List·Memᴰ f fs → accepted f ≡ true → pairAmong (pieceOf f .heading .level) (pieceOf f .heading .version) qs ≡ true
   pub clear : (f g : List ℕ) → List·Memᴰ f fs → List·Memᴰ g fs → accepted f ≡ true → accepted g ≡ true → contradict (pieceOf f) (pieceOf g) ≡ false
+
+-- each element of a frame is a byte
+abbrev pub Bytes : List ℕ → Type 0
+Bytes f = (i : ℕ) → getD f i 0 < 256
 
 -- the same frames in another order (demand 3)
 pub data Rearranged : List (List ℕ) → List (List ℕ) → Type 0 where
@@ -80,6 +84,10 @@ pub data Rearranged : List (List ℕ) → List (List ℕ) → Type 0 where
 unfoldable pub firstOf : {B : Type 0} → (Piece → Bool) → (Piece → B) → List Piece → Option B
 firstOf is val [] = none
 firstOf is val (x ∷ xs) = cond (is x) (some (val x)) (firstOf is val xs)
+
+-- a frame of the list with an accepted heading that passes the test says b
+abbrev pub Said : {B : Type 0} → (Piece → Bool) → (Piece → B) → List (List ℕ) → B → Type 0
+Said is val fs b = (f : List ℕ) × List·Memᴰ f fs × (accepted f ≡ true) × (is (pieceOf f) ≡ true) × (val (pieceOf f) ≡ b)
 
 -- the four bytes of a pair's number (demand 3)
 abbrev pub given : List Piece → ℕ → ℕ → Number → Option Four

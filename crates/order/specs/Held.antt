@@ -1,9 +1,10 @@
 -- What a collector holds, by pair and number, and what becomes of it in a run.
-use mathlib.Core.Bool.{Bool, cond, _&&_, _||_}
+use mathlib.Core.Path.{_≡_}
+use mathlib.Core.Bool.{Bool, true, cond, _&&_, _||_}
 use mathlib.Core.List.{List, [], _∷_}
 use mathlib.Core.Option.{Option, none, some}
 use Prim.Native.Nat.{ℕ, _+_, _*_}
-use lib.ListN.{getD}
+use lib.ListN.{length, getD}
 use lib.Dec.{eqb}
 use Rattle.frame.specs.declared.Total.{Total}
 use Rattle.frame.specs.declared.Number.{Number}
@@ -11,8 +12,15 @@ use Rattle.collector.specs.declared.Place.{Place}
 use Rattle.collector.specs.declared.Collector.{Collector}
 use Rattle.collector.specs.declared.Piece.{Piece}
 use Rattle.collector.specs.declared.Offered.{Offered}
-use Rattle.collector.specs.Places.{isPair, marked}
-use Rattle.collector.specs.Collector.{pieceOf, takenIn, offered, released}
+use Rattle.laws.specs.Scan.{all}
+use Rattle.collector.specs.Places.{isPair, marked, shaped}
+use Rattle.collector.specs.Collector.{good, pieceOf, takenIn, offered, released}
+
+-- a record as the types give it, and that 28 lets by
+pub record Good (c : Collector) : Type 0 where
+  pub count : length (c .places) ≡ 4
+  pub shape : all shaped (c .places) ≡ true
+  pub order : good (c .places) ≡ true
 
 -- four bytes of packet (01, Frame heading)
 abbrev pub Four : Type 0
@@ -49,6 +57,11 @@ holds c l v n = holdsIn (heldPlace l v (c .places)) n
 -- the total held for a pair (demand 3)
 unfoldable pub totalHeld : Collector → ℕ → ℕ → Option Total
 totalHeld c l v = totalIn (heldPlace l v (c .places))
+
+-- what the one holds the other holds too: the same four bytes for a pair's number, and the same total for a pair
+pub record Stays (c d : Collector) : Type 0 where
+  pub bytes : (l v : ℕ) (n : Number) (b : Four) → holds c l v n ≡ some b → holds d l v n ≡ some b
+  pub total : (l v : ℕ) (t : Total) → totalHeld c l v ≡ some t → totalHeld d l v ≡ some t
 
 -- the frames offered one after the other (demand 3)
 unfoldable pub offerAll : Collector → List (List ℕ) → Collector
