@@ -22,15 +22,15 @@ framesFor p = (p + 5) / 4
 abbrev pub totalFor : ℕ → Total
 totalFor p = record { 0 = framesFor p }
 
--- the packet, then its check, high byte first (01, on-air writer)
+-- the packet, then its check, high byte first
 unfoldable pub withCheck : List ℕ → List ℕ
 withCheck packet = packet ++ (crc16 packet / 2 ^ 8 ∷ crc16 packet % 2 ^ 8 ∷ [])
 
--- byte i of what the frames carry: past the check it is fill, all ones (01, on-air writer)
+-- byte i of what the frames carry: past the check it is fill, all ones
 unfoldable pub carried : List ℕ → ℕ → ℕ
 carried packet i = getD (withCheck packet) i 0xFF
 
--- the frame of a heading: its four bytes, then the four that its number names (01, on-air writer)
+-- the frame of a heading: its four bytes, then the four that its number names
 unfoldable pub frameOf : List ℕ → Heading → List ℕ
 frameOf packet h =
     headingBytes h
@@ -46,15 +46,15 @@ framesFrom packet level version number zero = []
 framesFrom packet level version number (suc n) =
     frameOf packet (headingFor level version (totalFor (length packet)) number) ∷ framesFrom packet level version (record { 0 = number .0 + 1 }) n
 
--- all frames of a packet (01, on-air writer)
+-- all frames of a packet
 unfoldable pub framesOf : List ℕ → ℕ → ℕ → List (List ℕ)
 framesOf packet level version = framesFrom packet level version (record { 0 = 0 }) (framesFor (length packet))
 
--- a packet of 2 to 250 bytes that says its size itself (01, on-air writer)
+-- a packet of 2 to 250 bytes that says its size itself
 unfoldable pub sized : List ℕ → Bool
 sized packet = leb 2 (length packet) && (leb (length packet) 250 && eqb (length packet) (packetSize packet))
 
--- 20, 13, 27, 10, in this order (01, on-air writer)
+-- 20, 13, 27, 10, in this order
 unfoldable pub cases : List ℕ → ℕ → ℕ → List ℕ → List Case
 cases packet level version out =
     (not (sized packet), 20)
@@ -75,7 +75,7 @@ airedOf packet level version out =
       frames = cond (eqb (answerOf packet level version out) 0) (framesFor (length packet)) 0;
     }
 
--- the frames' bytes from the output's first, the rest as it was; a refusal writes nothing (01, on-air writer)
+-- the frames' bytes from the output's first, the rest as it was; a refusal writes nothing
 unfoldable pub airedInto : List ℕ → ℕ → ℕ → List ℕ → List ℕ
 airedInto packet level version out =
     cond (eqb (answerOf packet level version out) 0)

@@ -1,5 +1,5 @@
 -- Whether a place is fair: a law for each way out of the code. Assumes nothing.
-use mathlib.Core.Path.{_≡_, sym, ap, _∙_}
+use mathlib.Core.Path.{_≡_, sym, _∙_}
 use mathlib.Core.Bool.{true, false, not, _&&_}
 use Prim.Native.Nat.{_<_, _≤_}
 use lib.Dec.{leb}

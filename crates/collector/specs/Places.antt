@@ -33,15 +33,15 @@ withMark ms n = set ms (n .0) true
 abbrev pub free : Place
 free = record { held = false; level = 0; version = 0; total = record { 0 = 0 }; marks = noMarks; bytes = replicate 252 0 }
 
--- what stands for the place of a pair that no place is held for (01, Collector)
+-- what stands for the place of a pair that no place is held for
 abbrev pub blank : Place
 blank = record { held = false; level = 0; version = 0; total = record { 0 = 0 }; marks = []; bytes = [] }
 
--- held for this level and version (01, Collector)
+-- held for this level and version
 abbrev pub isPair : ℕ → ℕ → Place → Bool
 isPair l v p = p .held && (eqb (p .level) l && eqb (p .version) v)
 
--- both are held, for one pair (01, Collector)
+-- both are held, for one pair
 abbrev pub samePair : Place → Place → Bool
 samePair p q = p .held && isPair (p .level) (p .version) q
 
@@ -55,11 +55,11 @@ pairsApart p q = not (samePair p q)
 unfoldable pub astray : Place → Number → Bool
 astray p n = not (ltb (n .0) (p .total .0)) && marked p n
 
--- there is none (01, Collector)
+-- there is none
 unfoldable pub marksBelow : Place → Bool
 marksBelow p = below 63 (λ n. not (astray p (record { 0 = n })))
 
--- all numbers below the total are held (01, Collector)
+-- all numbers below the total are held
 unfoldable pub complete : Place → Bool
 complete p = below (p .total .0) (λ n. marked p (record { 0 = n }))
 
@@ -80,7 +80,7 @@ fair p =
 abbrev pub Small : Piece → Type 0
 Small x = x .heading .number .0 < 63
 
--- the four bytes at the frame's number are the frame's (01, Collector)
+-- the four bytes at the frame's number are the frame's
 abbrev pub sameFour : Place → Piece → Bool
 sameFour p x =
     eqb (getD (p .bytes) (x .heading .number .0 * 4) 0) (x .a)
@@ -93,11 +93,11 @@ unfoldable pub contradicts : Place → Piece → Bool
 contradicts p x =
     not (eqb (p .total .0) (x .heading .total .0)) || (marked p (x .heading .number) && not (sameFour p x))
 
--- 2: the same frame is held already (01, Numbers given back)
+-- 2: the same frame is held already
 unfoldable pub again : Place → Piece → Bool
 again p x = marked p (x .heading .number) && sameFour p x
 
--- 15 or 2 by what the place holds, else 0 (01, Numbers given back)
+-- 15 or 2 by what the place holds, else 0
 unfoldable pub against : Place → Piece → ℕ
 against p x = first ((contradicts p x, 15) ∷ (again p x, 2) ∷ [])
 
@@ -115,7 +115,7 @@ takenFor x =
       bytes = replicate 252 0;
     }
 
--- a frame is kept: its mark, and its four bytes at four times its number (01, Collector)
+-- a frame is kept: its mark, and its four bytes at four times its number
 unfoldable pub stored : Place → Piece → Place
 stored p x =
     record {
@@ -134,7 +134,7 @@ stored p x =
           (x .d);
     }
 
--- a place is released: free, bytes and marks as they were (01, Collector)
+-- a place is released: free, bytes and marks as they were
 unfoldable pub freed : Place → Place
 freed p =
     record { held = false; level = p .level; version = p .version; total = p .total; marks = p .marks; bytes = p .bytes }
@@ -145,11 +145,11 @@ freed p =
 abbrev pub joined : Place → List ℕ
 joined p = take (p .total .0 * 4) (p .bytes)
 
--- all numbers held, and the joined bytes pass (01, Collector)
+-- all numbers held, and the joined bytes pass
 unfoldable pub whole : Place → Bool
 whole p = complete p && passes (joined p)
 
--- all numbers held, and they do not pass (01, Collector)
+-- all numbers held, and they do not pass
 unfoldable pub spoiled : Place → Bool
 spoiled p = complete p && not (passes (joined p))
 
@@ -163,7 +163,7 @@ state p = first ((spoiled p, 17) ∷ (whole p, 1) ∷ [])
 unfoldable pub copyCases : Place → ℕ → List Case
 copyCases p n = (not (p .held && whole p), 18) ∷ (ltb n (packetSize (joined p)), 10) ∷ []
 
--- the number, and P beside 0 (01, Numbers given back)
+-- the number, and P beside 0
 unfoldable pub copyAnswer : ℕ → Place → Copied
 copyAnswer a p = record { answer = a; length = cond (eqb a 0) (packetSize (joined p)) 0 }
 

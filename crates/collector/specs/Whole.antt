@@ -13,18 +13,18 @@ use Rattle.size.specs.Size.{packetSize}
 unfoldable pub sized : List ℕ → Bool
 sized b = leb (packetSize b + 2) (length b) && leb (length b) (packetSize b + 5)
 
--- bytes P and P + 1, high byte first, are the check of the P packet bytes only (01, Collector)
+-- bytes P and P + 1, high byte first, are the check of the P packet bytes only
 unfoldable pub checked : List ℕ → Bool
 checked b = eqb (crc16 (take (packetSize b) b)) (getD b (packetSize b) 0 * 256 + getD b (packetSize b + 1) 0)
 
--- a byte of the fill (01, Collector)
+-- a byte of the fill
 abbrev pub isFill : ℕ → Bool
 isFill x = eqb x 0xFF
 
--- the rest is 0xFF (01, Collector)
+-- the rest is 0xFF
 unfoldable pub filled : List ℕ → Bool
 filled b = all isFill (drop (packetSize b + 2) b)
 
--- size, check and fill are right (01, Collector)
+-- size, check and fill are right
 unfoldable pub passes : List ℕ → Bool
 passes b = sized b && (checked b && filled b)

@@ -2,11 +2,10 @@
 use mathlib.Core.Path.{_≡_, refl, sym, ap, ap₂, subst, _∙_}
 use mathlib.Core.List.{List, [], _∷_}
 use mathlib.Core.Bool.{Bool, true, false, not, _&&_, _||_, and-false}
-use Prim.Native.Nat.{ℕ, zero, suc, _+_, _*_, _≤_, _<_}
+use Prim.Native.Nat.{ℕ, zero, suc, _≤_, _<_}
 use native.Mathlib.Nat.{not-suc-le-zero, le-of-suc-le-suc}
 use native.Mathlib.Omega.{arith}
-use lib.ListN.{length, getD, set, drop, replicate, length-set}
-use lib.Seq.{drop-set-lt}
+use lib.ListN.{length, getD, set, length-set}
 use lib.Dec.{leb, ltb, eqb}
 use borrow.Author.Tests.{ltb-true, ltb-false, eqb-true, eqb-false, eq-eqb, ne-eqb, le-leb}
 use Rattle.laws.specs.Scan.{all, indexOf}
@@ -200,7 +199,7 @@ offer-good c f g =
     (λ t. subst (λ (o : Offered). Good (o .collector)) (offer-heading c f (g .order) (eqb-false _ _ t)) g)
 
 -- a place made free is fair, apart from every other, and has its lengths still
-freed-is : (p : Place) → freed p .held ≡ false
+pub freed-is : (p : Place) → freed p .held ≡ false
 unfolding freed
 freed-is p = refl
 

@@ -12,7 +12,7 @@ use Rattle.laws.specs.Refusals.{first, among}
 use Rattle.laws.proofs.Cases.{if-yes, if-no, and-yes, and-left, and-right, or-yes, or-no}
 use Rattle.laws.proofs.Elements.{by-test, first-append}
 use Rattle.laws.proofs.Refusals.{listed, stop, pass}
-use Rattle.frame.specs.Heading.{refusals, fieldsOf, accepted}
+use Rattle.frame.specs.Heading.{refusals, headingFields, accepted}
 use Rattle.frame.proofs.Accepted.{none-refused, some-refused, refused-with}
 use Rattle.frame.proofs.Alike.{made, remade}
 use Rattle.collector.specs.declared.Piece.{Piece}
@@ -36,15 +36,15 @@ module _ (f g : List ℕ) (bf : Bytes f) (bg : Bytes g) (af : accepted f ≡ tru
       let b = and-right (eqb (x .heading .total .0) (y .heading .total .0)) (sameBytes x y) r in
       let b₁ = and-right (eqb (x .a) (y .a)) _ b in
       let b₂ = and-right (eqb (x .b) (y .b)) _ b₁ in
-      let el : fieldsOf f .level ≡ fieldsOf g .level = eqb-true _ _ (and-left (eqb (x .heading .level) (y .heading .level)) (eqb (x .heading .version) (y .heading .version)) p) in
-      let ev : fieldsOf f .version ≡ fieldsOf g .version = eqb-true _ _ (and-right (eqb (x .heading .level) (y .heading .level)) (eqb (x .heading .version) (y .heading .version)) p) in
-      let et : fieldsOf f .total .0 ≡ fieldsOf g .total .0 = eqb-true _ _ (and-left (eqb (x .heading .total .0) (y .heading .total .0)) (sameBytes x y) r) in
-      let en : fieldsOf f .number .0 ≡ fieldsOf g .number .0 = eqb-true _ _ (and-right (ofPair (y .heading .level) (y .heading .version) x) (eqb (x .heading .number .0) (y .heading .number .0)) k) in
+      let el : headingFields f .level ≡ headingFields g .level = eqb-true _ _ (and-left (eqb (x .heading .level) (y .heading .level)) (eqb (x .heading .version) (y .heading .version)) p) in
+      let ev : headingFields f .version ≡ headingFields g .version = eqb-true _ _ (and-right (eqb (x .heading .level) (y .heading .level)) (eqb (x .heading .version) (y .heading .version)) p) in
+      let et : headingFields f .total .0 ≡ headingFields g .total .0 = eqb-true _ _ (and-left (eqb (x .heading .total .0) (y .heading .total .0)) (sameBytes x y) r) in
+      let en : headingFields f .number .0 ≡ headingFields g .number .0 = eqb-true _ _ (and-right (ofPair (y .heading .level) (y .heading .version) x) (eqb (x .heading .number .0) (y .heading .number .0)) k) in
       let ea : getD f 4 0 ≡ getD g 4 0 = eqb-true _ _ (and-left (eqb (x .a) (y .a)) _ b) in
       let eb : getD f 5 0 ≡ getD g 5 0 = eqb-true _ _ (and-left (eqb (x .b) (y .b)) _ b₁) in
       let ec : getD f 6 0 ≡ getD g 6 0 = eqb-true _ _ (and-left (eqb (x .c) (y .c)) (eqb (x .d) (y .d)) b₂) in
       let ed : getD f 7 0 ≡ getD g 7 0 = eqb-true _ _ (and-right (eqb (x .c) (y .c)) (eqb (x .d) (y .d)) b₂) in
-      let m : made (fieldsOf f) (getD f 4 0) (getD f 5 0) (getD f 6 0) (getD f 7 0) ≡ made (fieldsOf g) (getD g 4 0) (getD g 5 0) (getD g 6 0) (getD g 7 0) =
+      let m : made (headingFields f) (getD f 4 0) (getD f 5 0) (getD f 6 0) (getD f 7 0) ≡ made (headingFields g) (getD g 4 0) (getD g 5 0) (getD g 6 0) (getD g 7 0) =
       rw (el, ev, et, en, ea, eb, ec, ed) in
       remade f bf (accepted-none f af)
       ∙ m

@@ -2,11 +2,10 @@
 use mathlib.Core.Path.{_≡_, refl, sym, ap, ap₂, _∙_}
 use mathlib.Core.Option.{Option, none, some}
 use mathlib.Core.Bool.{Bool, true, false, cond, _&&_, and-false}
-use Prim.Native.Nat.{ℕ, _+_, _*_, _≤_, _<_}
-use native.Mathlib.Omega.{arith}
-use lib.ListN.{length, getD, set, replicate, length-replicate, getD-replicate, List·getD-eq-default}
-use lib.Dec.{ltb, eqb}
-use borrow.Author.Tests.{not-true, ltb-true, ltb-false, eqb-true, eqb-false, eq-eqb}
+use Prim.Native.Nat.{ℕ, _≤_, _<_}
+use lib.ListN.{length, getD, set}
+use lib.Dec.{eqb}
+use borrow.Author.Tests.{not-true, eqb-true, eqb-false, eq-eqb}
 use Rattle.laws.proofs.Cases.{if-yes, if-no, and-yes, and-no, and-left, and-right}
 use Rattle.laws.proofs.Elements.{by-test, index-holds}
 use Rattle.frame.specs.declared.Total.{Total}

@@ -6,11 +6,11 @@ use mathlib.Core.Bool.{true, false, cond}
 use Prim.Native.Nat.{ℕ, _≤_, _<_}
 use native.Mathlib.Omega.{arith}
 use lib.ListN.{length, set}
-use lib.Dec.{ltb, eqb}
-use borrow.Author.Tests.{ltb-true, ltb-false, eqb-true, eq-eqb}
+use lib.Dec.{ltb}
+use borrow.Author.Tests.{ltb-true, ltb-false, eq-eqb}
 use Rattle.laws.specs.Scan.{indexOf}
 use Rattle.laws.specs.Refusals.{first}
-use Rattle.laws.proofs.Cases.{if-yes, if-no, and-yes, and-left, and-right}
+use Rattle.laws.proofs.Cases.{if-yes, if-no, and-yes}
 use Rattle.laws.proofs.Elements.{by-test, all-at, all-set, index-holds}
 use Rattle.frame.specs.declared.Total.{Total}
 use Rattle.frame.specs.declared.Number.{Number}

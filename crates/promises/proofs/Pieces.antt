@@ -15,7 +15,7 @@ use Rattle.laws.proofs.Cases.{if-yes, if-no, and-no, or-no}
 use Rattle.laws.proofs.Elements.{by-test}
 use Rattle.frame.specs.declared.Headed.{Headed}
 use Rattle.frame.specs.declared.Heading.{Heading}
-use Rattle.frame.specs.Heading.{refusals, fieldsOf, headingOf, accepted}
+use Rattle.frame.specs.Heading.{refusals, headingFields, headingOf, accepted}
 use Rattle.frame.proofs.Back.{comes-back}
 use Rattle.frame.proofs.Accepted.{answer-is, fields-are}
 use Rattle.air.specs.OnAir.{framesFor, totalFor, carried, frameOf, headingFor, framesFrom, framesOf}
@@ -59,7 +59,7 @@ module _ (p : List ℕ) (l v : ℕ) (u : Under 256 p) (t : Taken p l v) where
 
   pub piece-is : (k : ℕ) → k < N → pieceOf (frameAt k) ≡ pieceAt k
   piece-is k h =
-      let e : fieldsOf (frameAt k) ≡ headingFor l v (totalFor (length p)) (record { 0 = k }) = sym (fields-are (frameAt k) (none-due k h)) ∙ ap (λ (x : Headed). x .heading) (headed k h) in
+      let e : headingFields (frameAt k) ≡ headingFor l v (totalFor (length p)) (record { 0 = k }) = sym (fields-are (frameAt k) (none-due k h)) ∙ ap (λ (x : Headed). x .heading) (headed k h) in
       ap (λ (x : Heading). pieceWith x (frameAt k)) e ∙ ap (pieceWith (headingFor l v (totalFor (length p)) (record { 0 = k }))) (eight-of p (headingFor l v (totalFor (length p)) (record { 0 = k })) (fits p l v u t k h))
 
   -- ---- several

@@ -2,7 +2,7 @@
 use Rattle.laws.proofs.Parts.{part-is}
 use Prim.Native.Nat.{_-_, _*_}
 use native.Mathlib.Omega.{arith}
-use lib.ListN.{length, length-drop}
+use lib.ListN.{length-drop}
 use Rattle.air.proofs.Stream.{Going, few-total, going-first, going-turn, going-last}
 use borrow.Author.Needs.{needs}
 use Rattle.air.proofs.put_frames.Statement.{statement}

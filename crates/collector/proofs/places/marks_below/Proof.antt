@@ -1,7 +1,7 @@
 -- `collector::places::marks_below` meets its contract. The loop's invariant: no number so far is astray. Assumes nothing.
 use mathlib.Core.Path.{_≡_, refl, sym, ap, subst, _∙_}
 use mathlib.Core.Bool.{true, not}
-use Prim.Native.Nat.{ℕ, _+_, _-_, _≤_}
+use Prim.Native.Nat.{ℕ, _-_, _≤_}
 use native.Mathlib.Omega.{arith}
 use Rattle.laws.specs.Below.{below}
 use Rattle.collector.specs.Places.{astray, marksBelow}
