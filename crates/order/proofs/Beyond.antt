@@ -1,6 +1,7 @@
 -- Outside the bounds of demand 3: what each number keeps, what a release leaves, and where 15 comes from. Assumes nothing.
 use mathlib.Core.Path.{_≡_, refl, sym, ap, ap₂, subst, _∙_}
-use mathlib.Core.List.{List, [], _∷_, List·Memᴰ, List·Memᴰ·head, List·Memᴰ·tail}
+use mathlib.Core.List.{List, [], _∷_, List·Memᴰ, List·Memᴰ·head, List·Memᴰ·tail, List·Memᴰ·not-nil, List·Memᴰ·cases-cons}
+use mathlib.Core.Logic.{_↔_, ⊎-elim}
 use mathlib.Core.Option.{Option, none, some}
 use mathlib.Core.Bool.{Bool, true, false, cond, not, _&&_, _||_, true≢false, and-false, or-true}
 use Prim.Native.Nat.{ℕ, zero, suc, _<_, _≤_}
@@ -8,7 +9,7 @@ use native.Mathlib.Nat.{not-suc-le-zero, le-of-suc-le-suc}
 use native.Mathlib.Omega.{arith}
 use lib.ListN.{length, getD, set}
 use lib.Dec.{eqb, ltb}
-use borrow.Author.Tests.{eqb-true, ltb-true, ltb-false, not-true}
+use borrow.Author.Tests.{eqb-true, eq-eqb, ltb-true, ltb-false, not-true}
 use Rattle.laws.specs.Scan.{all, indexOf}
 use Rattle.laws.specs.Refusals.{first}
 use Rattle.laws.proofs.Cases.{if-yes, if-no, and-yes, and-no, and-left, and-right, or-yes, or-no}
@@ -25,17 +26,17 @@ use Rattle.collector.specs.declared.Offered.{Offered}
 use Rattle.collector.specs.Places.{blank, isPair, pairsApart, marked, sameFour, contradicts, again, against, takenFor, freed}
 use Rattle.collector.specs.Collector.{nothing, good, indexOfPair, itsPlace, put, pieceOf, takeCases, keeps, takenIn, offerCases, offered, released}
 use Rattle.collector.proofs.Calls.{offer-apart, release-0, release-18}
-use Rattle.collector.proofs.AllPlaces.{is-held, is-not-held}
-use Rattle.order.specs.Held.{Good, Four, bytesAt, heldPlace, holdsIn, totalIn, holds, totalHeld, Act, offering, releasing, run}
-use Rattle.order.specs.Given.{four, ofPair, ofNumber, sameBytes, contradict, Said, Added, keptSince}
+use Rattle.collector.proofs.AllPlaces.{is-held, is-not-held, take-against}
+use Rattle.order.specs.Held.{Good, Four, bytesAt, fourAt, heldPlace, holdsIn, totalIn, holds, totalHeld, Act, offering, releasing, run}
+use Rattle.order.specs.Given.{four, ofPair, ofNumber, sameBytes, contradict, isSome, Said, Added, keptSince}
 use Rattle.order.proofs.HeldPlace.{held-place-no, held-place-found, held-place-missing, held-place-miss}
 use Rattle.order.proofs.Keeping.{kept-collector, freed-is, good-apart, good-tail, empty-good, offer-good, release-good}
 use Rattle.order.proofs.Outcome.{Outcome, turned, joins, starts, finds-none, outcome, atPair, atFree}
-use Rattle.order.proofs.Declaring.{marked-four}
+use Rattle.order.proofs.Declaring.{four-marked, marked-four}
 use Rattle.order.proofs.Running.{some-inj, none-some}
 use Rattle.order.proofs.Offering.{offered-taken, offered-refused, accepted-none, refused-some}
-use Rattle.order.proofs.Theorems.{refusal-keeps}
-use Rattle.order.proofs.Staying.{joins-added, starts-added}
+use Rattle.order.proofs.Theorems.{run-keeps-good, refusal-keeps}
+use Rattle.order.proofs.Staying.{joins-added, starts-added, held-stays}
 use Rattle.order.proofs.Only.{one-pair}
 
 -- ---- what is kept
@@ -244,17 +245,29 @@ case-15 : (c : Collector) (f : List ℕ) → offered c f .answer ≡ 15 → (its
 unfolding offered offerCases refusals takeCases
 case-15 c f e = exact (offerCases c f) (offer-apart c f) 5 (omega arith) .0 e .0
 
+-- and of its heading
+taken-15 : (c : Collector) (f : List ℕ) → Good c → offered c f .answer ≡ 15 → accepted f ≡ true
+taken-15 c f g e =
+    by-test (accepted f)
+    (λ a. a)
+    (λ a.
+    let n = refused-some f a in
+    absurd (refused-with f n (λ (k : ℕ). k ≡ 15 → ⊥) (λ (z : 26 ≡ 15). omega arith) (λ (z : 12 ≡ 15). omega arith) (λ (z : 13 ≡ 15). omega arith) (λ (z : 14 ≡ 15). omega arith) (sym (ap (λ (o : Offered). o .answer) (offered-refused c f g a)) ∙ e)))
+
+its-there : (c : Collector) (x : Piece) → itsPlace c x .held ≡ true → heldPlace (x .heading .level) (x .heading .version) (c .places) ≡ some (itsPlace c x)
+unfolding indexOfPair
+its-there c x held =
+    by-test (ltb (atPair c x) (length (c .places)))
+    (λ t. held-place-found (x .heading .level) (x .heading .version) (c .places) (ltb-true _ _ t))
+    (λ t. absurd (true≢false (sym held ∙ is-not-held (c .places) (x .heading .level) (x .heading .version) (ltb-false _ _ t))))
+
 -- a frame that contradicts the place contradicts one of the frames that were kept in it
 module _ (c : Collector) (x : Piece) (gs : List (List ℕ)) (y : HeldBy (x .heading .level) (x .heading .version) gs c) (held : itsPlace c x .held ≡ true) where
   abbrev Against : Type 0
   Against = (g : List ℕ) × List·Memᴰ g gs × (accepted g ≡ true) × (contradict (pieceOf g) x ≡ true)
 
   there : heldPlace (x .heading .level) (x .heading .version) (c .places) ≡ some (itsPlace c x)
-  unfolding indexOfPair
-  there =
-      by-test (ltb (atPair c x) (length (c .places)))
-      (λ t. held-place-found (x .heading .level) (x .heading .version) (c .places) (ltb-true _ _ t))
-      (λ t. absurd (true≢false (sym held ∙ is-not-held (c .places) (x .heading .level) (x .heading .version) (ltb-false _ _ t))))
+  there = its-there c x held
 
   by-total : eqb (itsPlace c x .total .0) (x .heading .total .0) ≡ false → Against
   unfolding totalHeld contradict
@@ -285,16 +298,129 @@ module _ (c : Collector) (x : Piece) (gs : List (List ℕ)) (y : HeldBy (x .head
       (not-true _ (and-right (marked (itsPlace c x) (x .heading .number)) (not (sameFour (itsPlace c x) x)) r)))
       (λ t. by-total t)
 
--- After any offers and releases from an empty collector, 15 comes only if the frame contradicts a frame of its pair that was offered and kept
--- since the pair's place was taken.
-pub fifteen-contradicts : (acts : List Act) (f : List ℕ) → offered (run nothing acts) f .answer ≡ 15
-    → (g : List ℕ) × List·Memᴰ g (keptSince (pieceOf f .heading .level) (pieceOf f .heading .version) nothing acts []) × (accepted g ≡ true) × (contradict (pieceOf g) (pieceOf f) ≡ true)
-fifteen-contradicts acts f e =
+-- ---- and the other way: each of those frames is held
+AreHeld : ℕ → ℕ → List (List ℕ) → Collector → Type 0
+AreHeld l v gs c =
+    (g : List ℕ) → List·Memᴰ g gs
+    → (holds c l v (pieceOf g .heading .number) ≡ some (four (pieceOf g))) × (totalHeld c l v ≡ some (pieceOf g .heading .total))
+
+module _ (l v : ℕ) where
+  offer-are-held : (gs : List (List ℕ)) (c : Collector) (f : List ℕ) → Good c → AreHeld l v gs c
+      → AreHeld l v (cond (ofPair l v (pieceOf f) && keeps (offered c f .answer)) (f ∷ gs) gs) (offered c f .collector)
+  unfolding AreHeld
+  offer-are-held gs c f g y =
+      by-test (ofPair l v (pieceOf f) && keeps (offered c f .answer))
+      (λ t. subst (λ (hs : List (List ℕ)). AreHeld l v hs (offered c f .collector)) (sym (if-yes _ _ t)) (with-it t))
+      (λ t. subst (λ (hs : List (List ℕ)). AreHeld l v hs (offered c f .collector)) (sym (if-no _ _ t)) still)
+    where
+      still : AreHeld l v gs (offered c f .collector)
+      still h m =
+          let s = held-stays c f g in
+          let w = y h m in
+          (s .bytes l v (pieceOf h .heading .number) (four (pieceOf h)) (w .0), s .total l v (pieceOf h .heading .total) (w .1))
+
+      with-it : (ofPair l v (pieceOf f) && keeps (offered c f .answer)) ≡ true → AreHeld l v (f ∷ gs) (offered c f .collector)
+      with-it t h m =
+          let x = pieceOf f in
+          let p = and-left (ofPair l v x) (keeps (offered c f .answer)) t in
+          let k = kept-exactly c f g .0 (and-right (ofPair l v x) (keeps (offered c f .answer)) t) .1 in
+          let own : (holds (offered c f .collector) l v (x .heading .number) ≡ some (four x)) × (totalHeld (offered c f .collector) l v ≡ some (x .heading .total)) =
+          (k .bytes l v (x .heading .number) ∙ if-yes _ _ (and-yes _ p ∙ eq-eqb (x .heading .number .0) (x .heading .number .0) refl), k .total l v ∙ if-yes _ _ p) in
+          ⊎-elim
+          (λ (q : h ≡ f).
+          subst (λ (z : List ℕ). (holds (offered c f .collector) l v (pieceOf z .heading .number) ≡ some (four (pieceOf z))) × (totalHeld (offered c f .collector) l v ≡ some (pieceOf z .heading .total))) (sym q) own)
+          (λ r. still h r)
+          (List·Memᴰ·cases-cons m)
+
+  release-are-held : (gs : List (List ℕ)) (c : Collector) (i j : ℕ) → Good c → AreHeld l v gs c → AreHeld l v (cond (eqb i l && eqb j v) [] gs) (released c i j .collector)
+  unfolding AreHeld
+  release-are-held gs c i j g y =
+      let w = released-exactly c i j g l v in
+      by-test (eqb i l && eqb j v)
+      (λ t. subst (λ (hs : List (List ℕ)). AreHeld l v hs (released c i j .collector)) (sym (if-yes _ _ t)) (λ h m. absurd (List·Memᴰ·not-nil m)))
+      (λ t.
+      subst (λ (hs : List (List ℕ)). AreHeld l v hs (released c i j .collector)) (sym (if-no _ _ t))
+      (λ h m. (w .0 (pieceOf h .heading .number) ∙ if-no _ _ t ∙ y h m .0, w .1 ∙ if-no _ _ t ∙ y h m .1)))
+
+  run-are-held : (acts : List Act) (c : Collector) (gs : List (List ℕ)) → Good c → AreHeld l v gs c → AreHeld l v (keptSince l v c acts gs) (run c acts)
+  unfolding keptSince run
+  run-are-held [] c gs g y = y
+  run-are-held (offering f ∷ acts) c gs g y = run-are-held acts (offered c f .collector) _ (offer-good c f g) (offer-are-held gs c f g y)
+  run-are-held (releasing i j ∷ acts) c gs g y = run-are-held acts (released c i j .collector) _ (release-good c i j g) (release-are-held gs c i j g y)
+
+  none-are-held : AreHeld l v [] nothing
+  unfolding AreHeld
+  none-are-held h m = absurd (List·Memᴰ·not-nil m)
+
+module _ (c : Collector) (x z : Piece)
+    (bytes : holds c (x .heading .level) (x .heading .version) (z .heading .number) ≡ some (four z))
+    (total : totalHeld c (x .heading .level) (x .heading .version) ≡ some (z .heading .total)) where
+  its-held : itsPlace c x .held ≡ true
+  unfolding indexOfPair totalHeld
+  its-held =
+      by-test (ltb (atPair c x) (length (c .places)))
+      (λ t. is-held (c .places) (x .heading .level) (x .heading .version) (ltb-true _ _ t))
+      (λ t. absurd (none-some (sym (ap totalIn (held-place-missing (x .heading .level) (x .heading .version) (c .places) (ltb-false _ _ t))) ∙ total)))
+
+  found-its : heldPlace (x .heading .level) (x .heading .version) (c .places) ≡ some (itsPlace c x)
+  found-its = its-there c x its-held
+
+  its-total : itsPlace c x .total ≡ z .heading .total
+  unfolding totalHeld
+  its-total = some-inj (sym (ap totalIn found-its) ∙ total)
+
+  its-four : fourAt (itsPlace c x) (z .heading .number) ≡ some (four z)
+  unfolding holds
+  its-four = sym (ap (λ (o : Option Place). holdsIn o (z .heading .number)) found-its) ∙ bytes
+
+  its-mark : marked (itsPlace c x) (z .heading .number) ≡ true
+  its-mark = sym (four-marked (itsPlace c x) (z .heading .number)) ∙ ap isSome its-four
+
+  its-bytes : bytesAt (itsPlace c x) (z .heading .number) ≡ four z
+  its-bytes = some-inj (sym (marked-four (itsPlace c x) (z .heading .number) its-mark) ∙ its-four)
+
+  goes-against : contradict z x ≡ true → contradicts (itsPlace c x) x ≡ true
+  unfolding contradict contradicts
+  goes-against e =
+      let p = itsPlace c x in
+      let r = and-right (ofPair (x .heading .level) (x .heading .version) z) _ e in
+      let te : eqb (p .total .0) (x .heading .total .0) ≡ eqb (z .heading .total .0) (x .heading .total .0) = ap (λ (t : Total). eqb (t .0) (x .heading .total .0)) its-total in
+      by-test (eqb (z .heading .total .0) (x .heading .total .0))
+      (λ t.
+      let u : (eqb (z .heading .number .0) (x .heading .number .0) && not (sameBytes z x)) ≡ true = sym (or-no _ (ap not t)) ∙ r in
+      let en : z .heading .number .0 ≡ x .heading .number .0 = eqb-true _ _ (and-left (eqb (z .heading .number .0) (x .heading .number .0)) (not (sameBytes z x)) u) in
+      let m : marked p (x .heading .number) ≡ true = ap (λ (k : ℕ). marked p (record { 0 = k })) (sym en) ∙ its-mark in
+      let b : bytesAt p (x .heading .number) ≡ four z = ap (λ (k : ℕ). bytesAt p (record { 0 = k })) (sym en) ∙ its-bytes in
+      let sf : sameFour p x ≡ sameBytes z x = ap (λ (w : Four). eqb (w .0) (x .a) && (eqb (w .1) (x .b) && (eqb (w .2) (x .c) && eqb (w .3) (x .d)))) b in
+      or-no _ (ap not (te ∙ t)) ∙ and-yes _ m ∙ ap not (sf ∙ not-true _ (and-right (eqb (z .heading .number .0) (x .heading .number .0)) (not (sameBytes z x)) u)))
+      (λ t. or-yes _ (ap not (te ∙ t)))
+
+  says-15 : contradict z x ≡ true → takenIn c x .answer ≡ 15
+  unfolding against
+  says-15 e =
+      sym (ap (λ (o : Offered). o .answer) (take-against c x its-held 15 (sym (stop 15 _ (goes-against e))) (λ (q : 15 ≡ 0). omega arith)))
+
+-- After any offers and releases from an empty collector, 15 comes exactly if the frame's heading is accepted and the frame contradicts a frame of
+-- its pair that was offered and kept since the pair's place was taken.
+pub fifteen-exactly : (acts : List Act) (f : List ℕ)
+    → (offered (run nothing acts) f .answer ≡ 15)
+    ↔ ((accepted f ≡ true)
+    × ((g : List ℕ) × List·Memᴰ g (keptSince (pieceOf f .heading .level) (pieceOf f .heading .version) nothing acts []) × (accepted g ≡ true) × (contradict (pieceOf g) (pieceOf f) ≡ true)))
+unfolding AreHeld
+fifteen-exactly acts f =
     let c = run nothing acts in
     let x = pieceOf f in
     let l = x .heading .level in
     let v = x .heading .version in
-    let w = case-15 c f e in
-    by-place c x (keptSince l v nothing acts []) (run-held-by l v acts nothing [] empty-good (empty-held-by l v))
-    (and-left (itsPlace c x .held) (contradicts (itsPlace c x) x) w)
-    (and-right (itsPlace c x .held) (contradicts (itsPlace c x) x) w)
+    let gc = run-keeps-good acts nothing empty-good in (
+      λ e.
+          let w = case-15 c f e in (
+            taken-15 c f gc e,
+            by-place c x (keptSince l v nothing acts []) (run-held-by l v acts nothing [] empty-good (empty-held-by l v))
+                (and-left (itsPlace c x .held) (contradicts (itsPlace c x) x) w)
+                (and-right (itsPlace c x .held) (contradicts (itsPlace c x) x) w),
+          ),
+      λ w.
+          let y = run-are-held l v acts nothing [] empty-good (none-are-held l v) (w .1 .0) (w .1 .1) in
+          ap (λ (o : Offered). o .answer) (offered-taken c f gc (w .0)) ∙ says-15 c x (pieceOf (w .1 .0)) (y .0) (y .1) (w .1 .3),
+    )
