@@ -8,23 +8,24 @@ ghost use Rattle.crc.specs.Crc16.{crc16};
 ghost use Rattle.frame.specs.Heading.{Fits};
 ghost use Rattle.frame.specs.OnAir.{airBytes, streamOf};
 ghost use Rattle.air.specs.Packed.{packed, firstWord, WordOf, Room, Sendable};
-ghost use Rattle.air.specs.OnAir.{framesFor, carried, frameOf, framesOf, sized, airedOf, outputOf};
+ghost use Rattle.air.specs.OnAir.{totalFor, carried, frameOf, framesOf, sized, airedOf, airedInto};
 use block::Letter;
 use frame::Heading;
 use frame::Number;
 use frame::Total;
 
+// What the on-air writer gives back: its answer, and how many frames it wrote.
 pub struct Aired {
     pub answer: u8,
     pub frames: usize,
 }
 
-// The least N with 4N no less than P + 2.
-fn frames_for(length: usize) -> usize
-    requires { ⌜ length ≤ 250 ⌝ }
-    ensures { λ r. ⌜ r ≡ framesFor length ⌝ }
+// The total of a packet's frames: the least N with 4N no less than P + 2.
+fn total_for(size: usize) -> Total
+    requires { ⌜ size ≤ 250 ⌝ }
+    ensures { λ r. ⌜ r ≡ totalFor size ⌝ }
 {
-    (length + 5) / 4
+    Total(((size + 5) / 4) as u8)
 }
 
 // Whether the packet has 2 to 250 bytes and says so itself.
@@ -37,8 +38,7 @@ fn right_size(packet: &[u8]) -> bool
     if packet.len() > 250 {
         return false;
     }
-    let stated = (packet[0] % 8) as usize * 256 + packet[1] as usize;
-    packet.len() == stated + 2
+    packet.len() == size::packet_size(packet)
 }
 
 // Byte i of what the frames carry: the packet, its check, then fill.
@@ -128,26 +128,26 @@ fn put_frames(packet: &[u8], level: u8, version: u8, out: &mut [u8])
     requires { ⌜ Sendable (now packet) level version (now out) ⌝ }
     ensures { λ _. ⌜ now (out .exit) ≡ sets (now (out .entry)) 0 (streamOf (framesOf (now (packet .entry)) level version)) ⌝ }
 {
-    let total = frames_for(packet.len());
+    let total = total_for(packet.len());
     let check = crc::packet_check(packet);
-    let mut number: usize = 0;
-    while number < total {
+    let mut number = Number(0);
+    while number.0 < total.0 {
         let heading = Heading {
             level: level,
             version: version,
-            total: Total(total as u8),
-            number: Number(number as u8),
+            total: total,
+            number: number,
         };
-        let from = 13 * number;
+        let from = 13 * number.0 as usize;
         put_frame(&mut out[from..], packet, check, heading);
-        number += 1;
+        number = Number(number.0 + 1);
     }
 }
 
 // The packet on air as frames of the level and version: 20, 13, 27 or 10 where it is refused, else 0 and the count of frames.
 pub fn on_air(packet: &[u8], level: u8, version: u8, out: &mut [u8]) -> Aired
     ensures answer { λ r. ⌜ r ≡ airedOf (now (packet .entry)) level version (now (out .entry)) ⌝ }
-    ensures output { λ _. ⌜ now (out .exit) ≡ outputOf (now (packet .entry)) level version (now (out .entry)) ⌝ }
+    ensures output { λ _. ⌜ now (out .exit) ≡ airedInto (now (packet .entry)) level version (now (out .entry)) ⌝ }
 {
     if !right_size(packet) {
         return Aired {
@@ -173,7 +173,7 @@ pub fn on_air(packet: &[u8], level: u8, version: u8, out: &mut [u8]) -> Aired
             frames: 0,
         };
     }
-    let frames = frames_for(packet.len());
+    let frames = total_for(packet.len()).0 as usize;
     if out.len() < 13 * frames {
         return Aired {
             answer: 10,

@@ -19,7 +19,7 @@ use Rattle.collector.specs.declared.Place.{Place}
 use Rattle.collector.specs.declared.Collector.{Collector}
 use Rattle.collector.specs.declared.Piece.{Piece}
 use Rattle.collector.specs.Whole.{passes}
-use Rattle.collector.specs.Places.{blank, isPair, apart, taken, stored, marksBelow, complete, fair, contradicts, again, against, joined, state}
+use Rattle.collector.specs.Places.{blank, isPair, pairsApart, takenFor, stored, marksBelow, complete, fair, contradicts, again, against, joined, state}
 use Rattle.collector.specs.Collector.{good, indexOfPair, placeOf, isHeld, isFree, indexOfFree, put, itsPlace, spot, after, takeCases, keeps, takenIn, kept}
 use Rattle.collector.proofs.OnePlace.{is-missing, is-whole, is-spoiled}
 
@@ -29,16 +29,16 @@ module _ (xs : List Place) (d : Place) (i : ℕ) (h : i < length xs) where
   unfolding good
   good-bad e = rw (drop-cons xs i d, e)
 
-  pub good-twin : fair (getD xs i d) ≡ true → all (apart (getD xs i d)) (drop (i + 1) xs) ≡ false → good (drop i xs) ≡ false
+  pub good-twin : fair (getD xs i d) ≡ true → all (pairsApart (getD xs i d)) (drop (i + 1) xs) ≡ false → good (drop i xs) ≡ false
   unfolding good
   good-twin e a =
-      let a′ : all (apart (getD xs i d)) (drop (suc i) xs) ≡ false = rw (add-one i) at a in
+      let a′ : all (pairsApart (getD xs i d)) (drop (suc i) xs) ≡ false = rw (add-one i) at a in
       rw (drop-cons xs i d, e, a′)
 
-  pub good-next : fair (getD xs i d) ≡ true → all (apart (getD xs i d)) (drop (i + 1) xs) ≡ true → good (drop i xs) ≡ good (drop (i + 1) xs)
+  pub good-next : fair (getD xs i d) ≡ true → all (pairsApart (getD xs i d)) (drop (i + 1) xs) ≡ true → good (drop i xs) ≡ good (drop (i + 1) xs)
   unfolding good
   good-next e a =
-      let a′ : all (apart (getD xs i d)) (drop (suc i) xs) ≡ true = rw (add-one i) at a in
+      let a′ : all (pairsApart (getD xs i d)) (drop (suc i) xs) ≡ true = rw (add-one i) at a in
       rw (add-one i, drop-cons xs i d, e, a′)
 
 pub good-end : (xs : List Place) (i : ℕ) → i ≡ length xs → good (drop i xs) ≡ true
@@ -49,9 +49,9 @@ good-end xs i e = rw (e, drop-length)
 pub good-at : (xs : List Place) (i : ℕ) (d : Place) → i < length xs → good xs ≡ true → fair (getD xs i d) ≡ true
 unfolding good
 good-at [] i d h e = absurd (not-suc-le-zero h)
-good-at (x ∷ xs) zero d h e = and-left (fair x) (all (apart x) xs && good xs) e
+good-at (x ∷ xs) zero d h e = and-left (fair x) (all (pairsApart x) xs && good xs) e
 good-at (x ∷ xs) (suc i) d h e =
-    good-at xs i d (le-of-suc-le-suc h) (and-right (all (apart x) xs) (good xs) (and-right (fair x) (all (apart x) xs && good xs) e))
+    good-at xs i d (le-of-suc-le-suc h) (and-right (all (pairsApart x) xs) (good xs) (and-right (fair x) (all (pairsApart x) xs && good xs) e))
 
 pub total-small : (p : Place) → fair p ≡ true → p .held ≡ true → p .total .0 ≤ 63
 unfolding fair
@@ -130,7 +130,7 @@ module _ (c : Collector) (x : Piece) where
         let z = against-zero (itsPlace c x) x e in
         kept-as (indexOfPair (x .heading .level) (x .heading .version) (c .places)) (itsPlace c x)
         (if-yes _ _ held)
-        (ap (λ (p : Place). stored p x) (if-yes (itsPlace c x) (taken x) held))
+        (ap (λ (p : Place). stored p x) (if-yes (itsPlace c x) (takenFor x) held))
         (pass 15 _ (and-yes _ held ∙ z .0) ∙ pass 2 _ (and-yes _ held ∙ z .1) ∙ pass 16 _ (and-no _ (ap not held)))
 
     pub take-against : (a : ℕ) → a ≡ against (itsPlace c x) x → (a ≡ 0 → ⊥) → record { answer = a; collector = c } ≡ takenIn c x
@@ -148,12 +148,12 @@ module _ (c : Collector) (x : Piece) where
         (λ u. absurd (n (e ∙ pass 15 _ t ∙ pass 2 [] u ∙ none-left))))
 
   module _ (none : itsPlace c x .held ≡ false) where
-    pub take-free : all isHeld (c .places) ≡ false → kept c (indexOfFree (c .places)) (taken x) x ≡ takenIn c x
+    pub take-free : all isHeld (c .places) ≡ false → kept c (indexOfFree (c .places)) (takenFor x) x ≡ takenIn c x
     unfolding spot after takeCases state
     take-free e =
-        kept-as (indexOfFree (c .places)) (taken x)
+        kept-as (indexOfFree (c .places)) (takenFor x)
         (if-no _ _ none)
-        (ap (λ (p : Place). stored p x) (if-no (itsPlace c x) (taken x) none))
+        (ap (λ (p : Place). stored p x) (if-no (itsPlace c x) (takenFor x) none))
         (pass 15 _ (and-no _ none) ∙ pass 2 _ (and-no _ none) ∙ pass 16 _ (and-yes _ (ap not none) ∙ e))
 
     pub take-full : all isHeld (c .places) ≡ true → record { answer = 16; collector = c } ≡ takenIn c x

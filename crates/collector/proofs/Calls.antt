@@ -1,16 +1,17 @@
 -- Offer, release and copy: a law for each way out of the code, and that no number stands for two cases. Assumes nothing.
 use mathlib.Core.Path.{_≡_, refl, sym, ap, ap₂, _∙_}
-use mathlib.Core.List.{List, []}
-use mathlib.Core.Bool.{true, false, cond, not}
+use mathlib.Core.Logic.{_↔_}
+use mathlib.Core.List.{List, [], _∷_}
+use mathlib.Core.Bool.{Bool, true, false, cond, not}
 use Prim.Native.Nat.{ℕ}
 use native.Mathlib.Omega.{arith}
 use lib.ListN.{length}
 use lib.Dec.{eqb}
-use borrow.Author.Tests.{eq-eqb, ne-eqb}
-use Rattle.laws.specs.Refusals.{first, none, among, apart as apart-cases}
+use borrow.Author.Tests.{eq-eqb, ne-eqb, not-true}
+use Rattle.laws.specs.Refusals.{Case, first, none, among, apart}
 use Rattle.laws.proofs.Cases.{if-yes, if-no, and-no}
 use Rattle.laws.proofs.Elements.{first-append}
-use Rattle.laws.proofs.Refusals.{stop, pass, none-left}
+use Rattle.laws.proofs.Refusals.{stop, pass, none-left, exact}
 use Rattle.frame.specs.Heading.{refusals}
 use Rattle.frame.proofs.Accepted.{none-refused, some-refused, refused-with}
 use Rattle.collector.specs.declared.Place.{Place}
@@ -103,14 +104,19 @@ module _ (c : Collector) (l v : ℕ) (out : List ℕ) where
         )
 
 -- ---- no number stands for two cases, and none is 0: so the law `exact` holds of each list
-pub offer-apart : (c : Collector) (f : List ℕ) → apart-cases (offerCases c f) ≡ true
-unfolding offerCases refusals takeCases apart-cases among
+pub offer-apart : (c : Collector) (f : List ℕ) → apart (offerCases c f) ≡ true
+unfolding offerCases refusals takeCases apart among
 offer-apart c f = refl
 
-pub release-apart : (c : Collector) (l v : ℕ) → apart-cases (releaseCases c l v) ≡ true
-unfolding releaseCases apart-cases among
+pub release-apart : (c : Collector) (l v : ℕ) → apart (releaseCases c l v) ≡ true
+unfolding releaseCases apart among
 release-apart c l v = refl
 
-pub copy-apart : (c : Collector) (l v n : ℕ) → apart-cases (copiedCases c l v n) ≡ true
-unfolding copiedCases copyCases apart-cases among
+pub copy-apart : (c : Collector) (l v n : ℕ) → apart (copiedCases c l v n) ≡ true
+unfolding copiedCases copyCases apart among
 copy-apart c l v n = refl
+
+-- where 28 is asked first, it comes exactly of what is not good
+pub bad-first : (g : Bool) (cs : List Case) → apart ((not g, 28) ∷ cs) ≡ true → (first ((not g, 28) ∷ cs) ≡ 28) ↔ (g ≡ false)
+unfolding none
+bad-first g cs a = let w = exact ((not g, 28) ∷ cs) a 0 (omega arith) in (λ e. not-true g (w .0 e .0), λ e. w .1 (ap not e, refl))

@@ -1,36 +1,19 @@
--- Joined bytes: their size by the first two, and what the tests of size, check and fill say of the rule of a whole packet (01, Collector). Assumes nothing.
+-- Joined bytes: what the tests of size, check and fill say of the rule of a whole packet (01, Collector). Assumes nothing.
 use mathlib.Core.Path.{_≡_, sym, ap, _∙_}
 use mathlib.Core.List.{List}
 use mathlib.Core.Bool.{true, false}
-use Prim.Native.Nat.{ℕ, _+_, _-_, _*_, _%_, _^_, _<_, _≤_}
+use Prim.Native.Nat.{ℕ, _+_, _-_, _*_, _<_, _≤_}
 use native.Mathlib.Omega.{arith}
 use lib.ListN.{length, getD, drop, take, length-drop}
 use lib.Seq.{take-all}
 use lib.Dec.{leb, eqb}
 use borrow.Author.Tests.{le-leb, lt-leb}
-use Rattle.laws.specs.Bits.{bits}
 use Rattle.laws.specs.Scan.{all}
-use Rattle.laws.proofs.Bits.{at-small}
-use Rattle.laws.proofs.ByteFields.{at-byte, at-parts}
 use Rattle.crc.specs.Crc16.{crc16}
 use Rattle.laws.proofs.Cases.{and-yes, and-no}
 use Rattle.laws.proofs.Elements.{by-test}
-use Rattle.collector.specs.Whole.{lengthField, packetSize, isFill, sized, checked, filled, passes}
-
--- ---- the packet's size, by its first two bytes
-pub size-bytes : (b : List ℕ) → packetSize b ≡ getD b 0 0 % 8 * 256 + getD b 1 0 % 256 + 2
-unfolding packetSize
-size-bytes b =
-    ap (λ (n : ℕ). n + 2) (at-parts (bits b) 5 3 8 ∙ omega (arith, at-byte b 0 5 3 (omega arith), at-byte b 1 0 8 (omega arith)))
-
--- it counts the two bytes of type and length, and has eleven bits
-pub size-least : (b : List ℕ) → 2 ≤ packetSize b
-unfolding packetSize
-size-least b = omega arith
-
-pub size-most : (b : List ℕ) → packetSize b < 2050
-unfolding packetSize
-size-most b = let h : lengthField b < 2 ^ 11 = at-small b 5 11 11 (omega arith) in omega arith
+use Rattle.size.specs.Size.{packetSize}
+use Rattle.collector.specs.Whole.{isFill, sized, checked, filled, passes}
 
 -- what the code compares is the check
 pub check-is : (b : List ℕ) (p r hi lo : ℕ) → p ≡ packetSize b → r ≡ crc16 (take (p - 0) b) → hi ≡ getD b p 0 → lo ≡ getD b (p + 1) 0 → checked b ≡ eqb r (hi * 256 + lo)

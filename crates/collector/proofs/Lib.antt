@@ -1,3 +1,5 @@
+pub mod Marks
+pub mod Fair
 pub mod Joined
 pub mod OnePlace
 pub mod AllPlaces

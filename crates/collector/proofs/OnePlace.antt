@@ -14,9 +14,10 @@ use Rattle.laws.proofs.Elements.{by-test}
 use Rattle.laws.proofs.Refusals.{stop, pass, none-left}
 use Rattle.collector.specs.declared.Place.{Place}
 use Rattle.collector.specs.declared.Piece.{Piece}
-use Rattle.collector.specs.Whole.{packetSize, sized, passes}
+use Rattle.size.specs.Size.{packetSize}
+use Rattle.size.proofs.Size.{size-bytes}
+use Rattle.collector.specs.Whole.{sized, passes}
 use Rattle.collector.specs.Places.{marked, complete, sameFour, contradicts, again, against, joined, whole, spoiled, state, copyCases, copyAnswer, copyBytes}
-use Rattle.collector.proofs.Joined.{size-bytes}
 
 -- ---- a frame against a place of its pair
 module _ (p : Place) (x : Piece) where
@@ -75,25 +76,25 @@ module _ (p : Place) (out : List ℕ) where
   abbrev due : ℕ
   due = first (copyCases p (length out))
 
-  abbrev Said : ℕ → ℕ → List ℕ → Type 0
-  Said a n now = (record { answer = a; length = n } ≡ copyAnswer due p) × (now ≡ copyBytes due p out)
+  abbrev Gives : ℕ → ℕ → List ℕ → Type 0
+  Gives a n now = (record { answer = a; length = n } ≡ copyAnswer due p) × (now ≡ copyBytes due p out)
 
-  refuses : (a : ℕ) → due ≡ a → (a ≡ 0 → ⊥) → Said a 0 out
+  refuses : (a : ℕ) → due ≡ a → (a ≡ 0 → ⊥) → Gives a 0 out
   unfolding copyAnswer copyBytes
   refuses a e n =
       let z : eqb due 0 ≡ false = ne-eqb _ _ (λ (q : due ≡ 0). n (sym e ∙ q)) in
       (ap₂ (λ (k m : ℕ). record { answer = k; length = m }) (sym e) (sym (if-no _ _ z)), sym (if-no _ _ z))
 
-  pub copy-18 : whole p ≡ false → Said 18 0 out
+  pub copy-18 : whole p ≡ false → Gives 18 0 out
   unfolding copyCases
   copy-18 w = refuses 18 (stop 18 _ (ap not (by-test (p .held) (λ h. and-yes _ h ∙ w) (λ h. and-no _ h)))) (λ (z : 18 ≡ 0). omega arith)
 
   module _ (h : p .held ≡ true) (w : whole p ≡ true) where
-    pub copy-10 : length out < packetSize (joined p) → Said 10 0 out
+    pub copy-10 : length out < packetSize (joined p) → Gives 10 0 out
     unfolding copyCases
     copy-10 l = refuses 10 (pass 18 _ (ap not (and-yes _ h ∙ w)) ∙ stop 10 [] (lt-ltb _ _ l)) (λ (z : 10 ≡ 0). omega arith)
 
-    pub copy-0 : (n : ℕ) (now : List ℕ) → n ≡ packetSize (joined p) → n ≤ length out → now ≡ take n (joined p) ++ drop n out → Said 0 n now
+    pub copy-0 : (n : ℕ) (now : List ℕ) → n ≡ packetSize (joined p) → n ≤ length out → now ≡ take n (joined p) ++ drop n out → Gives 0 n now
     unfolding copyCases copyAnswer copyBytes
     copy-0 n now e l m =
         let a : due ≡ 0 = pass 18 _ (ap not (and-yes _ h ∙ w)) ∙ pass 10 [] (le-ltb (length out) (packetSize (joined p)) (omega arith)) ∙ none-left in

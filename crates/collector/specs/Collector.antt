@@ -7,13 +7,13 @@ use lib.Dec.{eqb}
 use Rattle.laws.specs.Scan.{all, indexOf}
 use Rattle.laws.specs.Refusals.{Case, first}
 use Rattle.frame.specs.declared.Heading.{Heading}
-use Rattle.frame.specs.Heading.{refusals, fieldsOf}
+use Rattle.frame.specs.Heading.{refusals, headingFields}
 use Rattle.collector.specs.declared.Place.{Place}
 use Rattle.collector.specs.declared.Collector.{Collector}
 use Rattle.collector.specs.declared.Piece.{Piece}
 use Rattle.collector.specs.declared.Offered.{Offered}
 use Rattle.collector.specs.declared.Copied.{Copied}
-use Rattle.collector.specs.Places.{free, blank, isPair, apart, fair, contradicts, again, taken, stored, freed, whole, spoiled, state, copyCases, copyAnswer, copyBytes}
+use Rattle.collector.specs.Places.{free, blank, isPair, pairsApart, fair, contradicts, again, takenFor, stored, freed, whole, spoiled, state, copyCases, copyAnswer, copyBytes}
 
 -- nothing is held (01, Collector)
 abbrev pub nothing : Collector
@@ -22,7 +22,7 @@ nothing = record { places = replicate 4 free }
 -- not 28: each held place is fair, and no two hold one pair (01, Numbers given back)
 unfoldable pub good : List Place → Bool
 good [] = true
-good (p ∷ ps) = fair p && (all (apart p) ps && good ps)
+good (p ∷ ps) = fair p && (all (pairsApart p) ps && good ps)
 
 -- ---- which place
 
@@ -30,23 +30,23 @@ good (p ∷ ps) = fair p && (all (apart p) ps && good ps)
 unfoldable pub indexOfPair : ℕ → ℕ → List Place → ℕ
 indexOfPair l v ps = indexOf (isPair l v) ps
 
--- the place that is held for the pair (01, Collector)
+-- the place that is held for the pair
 abbrev pub placeOf : ℕ → ℕ → List Place → Place
 placeOf l v ps = getD ps (indexOfPair l v ps) blank
 
--- the place is in use (01, Collector)
+-- the place is in use
 abbrev pub isHeld : Place → Bool
 isHeld p = p .held
 
--- it is not (01, Collector)
+-- it is not
 abbrev pub isFree : Place → Bool
 isFree p = not (p .held)
 
--- the first free place (01, Collector)
+-- the first free place
 unfoldable pub indexOfFree : List Place → ℕ
 indexOfFree ps = indexOf isFree ps
 
--- the collector with another place at an index (01, Collector)
+-- the collector with another place at an index
 abbrev pub put : Collector → ℕ → Place → Collector
 put c i p = record { places = set (c .places) i p }
 
@@ -58,20 +58,20 @@ pieceWith h f = record { heading = h; a = getD f 4 0; b = getD f 5 0; c = getD f
 
 -- what a frame says: its heading, and the four bytes of blocks 3 and 4 (01, Collector)
 abbrev pub pieceOf : List ℕ → Piece
-pieceOf f = pieceWith (fieldsOf f) f
+pieceOf f = pieceWith (headingFields f) f
 
--- the place that is held for the frame's pair (01, Collector)
+-- the place that is held for the frame's pair
 abbrev pub itsPlace : Collector → Piece → Place
 itsPlace c x = placeOf (x .heading .level) (x .heading .version) (c .places)
 
--- where a frame is kept: in its pair's place, or in the first free one, taken for it (01, Collector)
+-- where a frame is kept: in its pair's place, or in the first free one, taken for it
 unfoldable pub spot : Collector → Piece → ℕ
 spot c x =
     cond (itsPlace c x .held) (indexOfPair (x .heading .level) (x .heading .version) (c .places)) (indexOfFree (c .places))
 
--- that place with the frame kept in it; zeroed first where it is newly taken (01, Collector)
+-- that place with the frame kept in it; zeroed first where it is newly taken
 unfoldable pub after : Collector → Piece → Place
-after c x = stored (cond (itsPlace c x .held) (itsPlace c x) (taken x)) x
+after c x = stored (cond (itsPlace c x .held) (itsPlace c x) (takenFor x)) x
 
 -- 15, 2, 16; then by what the pair is with the frame kept: 17, 1, or 0 where some number is missing (01, Numbers given back)
 unfoldable pub takeCases : Collector → Piece → List Case
@@ -83,11 +83,11 @@ takeCases c x =
     ∷ (whole (after c x), 1)
     ∷ []
 
--- 0, 1 and 17 keep their frame (01, Numbers given back)
+-- 0, 1 and 17 keep their frame
 unfoldable pub keeps : ℕ → Bool
 keeps n = eqb n 0 || (eqb n 1 || eqb n 17)
 
--- an offer of what the heading lets in, to a good record; and a piece kept in place i, which was p (01, Numbers given back)
+-- an offer of what the heading lets in, to a good record
 unfoldable pub takenIn : Collector → Piece → Offered
 takenIn c x =
     record {
@@ -95,15 +95,15 @@ takenIn c x =
       collector = cond (keeps (first (takeCases c x))) (put c (spot c x) (after c x)) c;
     }
 
--- a frame kept in place i: the answer by what the pair is then (01, Numbers given back)
+-- a frame kept in place i, which was p: the answer by what the pair is then
 unfoldable pub kept : Collector → ℕ → Place → Piece → Offered
 kept c i p x = record { answer = state (stored p x); collector = put c i (stored p x) }
 
--- 28, then 26, 12, 13, 14 by the heading alone, then what the collector holds (01, Numbers given back)
+-- 28, then 26, 12, 13, 14 by the heading alone, then what the collector holds
 unfoldable pub offerCases : Collector → List ℕ → List Case
 offerCases c f = (not (good (c .places)), 28) ∷ (refusals f ++ takeCases c (pieceOf f))
 
--- the whole offer; what is not kept leaves the collector as it was (01, Numbers given back)
+-- the whole offer; what is not kept leaves the collector as it was
 unfoldable pub offered : Collector → List ℕ → Offered
 offered c f =
     record {
@@ -134,10 +134,10 @@ released c l v =
 unfoldable pub copiedCases : Collector → ℕ → ℕ → ℕ → List Case
 copiedCases c l v n = (not (good (c .places)), 28) ∷ copyCases (placeOf l v (c .places)) n
 
--- the answer for n bytes lent, and the packet's size; beside a refusal 0 (01, Numbers given back)
+-- the answer for n bytes lent, and the packet's size; beside a refusal 0
 unfoldable pub answered : Collector → ℕ → ℕ → ℕ → Copied
 answered c l v n = copyAnswer (first (copiedCases c l v n)) (placeOf l v (c .places))
 
--- what is lent, with the packet's bytes at its start; as it was beside a refusal (01, Numbers given back)
+-- what is lent, with the packet's bytes at its start; as it was beside a refusal
 unfoldable pub copied : Collector → ℕ → ℕ → List ℕ → List ℕ
 copied c l v out = copyBytes (first (copiedCases c l v (length out))) (placeOf l v (c .places)) out

@@ -4,59 +4,68 @@ use mathlib.Core.List.{List, [], _∷_, _++_}
 use Prim.Native.Nat.{ℕ, _+_, _*_, _<_}
 use lib.ListN.{length, getD, set, take, drop, replicate}
 use lib.Dec.{leb, ltb, eqb}
-use Rattle.laws.specs.Scan.{all}
+use Rattle.laws.specs.Below.{below}
 use Rattle.laws.specs.Refusals.{Case, first}
 use Rattle.frame.specs.declared.Number.{Number}
 use Rattle.collector.specs.declared.Place.{Place}
 use Rattle.collector.specs.declared.Piece.{Piece}
 use Rattle.collector.specs.declared.Copied.{Copied}
-use Rattle.collector.specs.Whole.{packetSize, passes}
+use Rattle.size.specs.Size.{packetSize}
+use Rattle.collector.specs.Whole.{passes}
+
+-- ---- marks: all that is said of them goes through these three
+
+-- no number is held
+abbrev pub noMarks : List Bool
+noMarks = replicate 63 false
+
+-- the number is held
+abbrev pub marked : Place → Number → Bool
+marked p n = getD (p .marks) (n .0) false
+
+-- the marks with one more
+abbrev pub withMark : List Bool → Number → List Bool
+withMark ms n = set ms (n .0) true
+
+-- ---- which pair a place is held for
 
 -- a place that was never taken (01, Collector)
 abbrev pub free : Place
-free = record { held = false; level = 0; version = 0; total = record { 0 = 0 }; marks = replicate 63 false; bytes = replicate 252 0 }
+free = record { held = false; level = 0; version = 0; total = record { 0 = 0 }; marks = noMarks; bytes = replicate 252 0 }
 
--- what stands for the place of a pair that no place is held for (01, Collector)
+-- what stands for the place of a pair that no place is held for
 abbrev pub blank : Place
 blank = record { held = false; level = 0; version = 0; total = record { 0 = 0 }; marks = []; bytes = [] }
 
--- held for this level and version (01, Collector)
+-- held for this level and version
 abbrev pub isPair : ℕ → ℕ → Place → Bool
 isPair l v p = p .held && (eqb (p .level) l && eqb (p .version) v)
 
--- both are held, for one pair (01, Collector)
+-- both are held, for one pair
 abbrev pub samePair : Place → Place → Bool
 samePair p q = p .held && isPair (p .level) (p .version) q
 
 -- not both held for one pair (01, Numbers given back, 28)
-abbrev pub apart : Place → Place → Bool
-apart p q = not (samePair p q)
+abbrev pub pairsApart : Place → Place → Bool
+pairsApart p q = not (samePair p q)
 
--- ---- marks: all that is said of them goes through these two, save that none stands where nothing may
+-- ---- whether its numbers are those below its total
 
--- the number is held (01, Collector)
-abbrev pub marked : Place → Number → Bool
-marked p n = getD (p .marks) (n .0) false
+-- a number that is held and not below the total (01, Collector)
+unfoldable pub astray : Place → Number → Bool
+astray p n = not (ltb (n .0) (p .total .0)) && marked p n
 
--- the marks with one more (01, Collector)
-abbrev pub withMark : List Bool → Number → List Bool
-withMark ms n = set ms (n .0) true
-
--- a mark that is set, as the scan over marks asks it (01, Collector)
-abbrev pub isSet : Bool → Bool
-isSet b = b
-
--- one that is not (01, Collector)
-abbrev pub isClear : Bool → Bool
-isClear b = not b
-
--- no mark stands at a number that is not below the total (01, Collector)
+-- there is none
 unfoldable pub marksBelow : Place → Bool
-marksBelow p = all isClear (drop (p .total .0) (p .marks))
+marksBelow p = below 63 (λ n. not (astray p (record { 0 = n })))
 
--- all numbers below the total are held (01, Collector)
+-- all numbers below the total are held
 unfoldable pub complete : Place → Bool
-complete p = all isSet (take (p .total .0) (p .marks))
+complete p = below (p .total .0) (λ n. marked p (record { 0 = n }))
+
+-- what the types give: a place has 63 marks and 252 bytes
+abbrev pub shaped : Place → Bool
+shaped p = eqb (length (p .marks)) 63 && eqb (length (p .bytes)) 252
 
 -- 28 asks this of a held place: level, version and total in range, no mark at a number not below the total (01, Numbers given back)
 unfoldable pub fair : Place → Bool
@@ -71,7 +80,7 @@ fair p =
 abbrev pub Small : Piece → Type 0
 Small x = x .heading .number .0 < 63
 
--- the four bytes at the frame's number are the frame's (01, Collector)
+-- the four bytes at the frame's number are the frame's
 abbrev pub sameFour : Place → Piece → Bool
 sameFour p x =
     eqb (getD (p .bytes) (x .heading .number .0 * 4) 0) (x .a)
@@ -84,29 +93,29 @@ unfoldable pub contradicts : Place → Piece → Bool
 contradicts p x =
     not (eqb (p .total .0) (x .heading .total .0)) || (marked p (x .heading .number) && not (sameFour p x))
 
--- 2: the same frame is held already (01, Numbers given back)
+-- 2: the same frame is held already
 unfoldable pub again : Place → Piece → Bool
 again p x = marked p (x .heading .number) && sameFour p x
 
--- 15 or 2 by what the place holds, else 0 (01, Numbers given back)
+-- 15 or 2 by what the place holds, else 0
 unfoldable pub against : Place → Piece → ℕ
 against p x = first ((contradicts p x, 15) ∷ (again p x, 2) ∷ [])
 
 -- ---- a place changes
 
 -- a place is taken: zeroed, no mark (01, Collector)
-unfoldable pub taken : Piece → Place
-taken x =
+unfoldable pub takenFor : Piece → Place
+takenFor x =
     record {
       held = true;
       level = x .heading .level;
       version = x .heading .version;
       total = x .heading .total;
-      marks = replicate 63 false;
+      marks = noMarks;
       bytes = replicate 252 0;
     }
 
--- a frame is kept: its mark, and its four bytes at four times its number (01, Collector)
+-- a frame is kept: its mark, and its four bytes at four times its number
 unfoldable pub stored : Place → Piece → Place
 stored p x =
     record {
@@ -125,7 +134,7 @@ stored p x =
           (x .d);
     }
 
--- a place is released: free, bytes and marks as they were (01, Collector)
+-- a place is released: free, bytes and marks as they were
 unfoldable pub freed : Place → Place
 freed p =
     record { held = false; level = p .level; version = p .version; total = p .total; marks = p .marks; bytes = p .bytes }
@@ -136,11 +145,11 @@ freed p =
 abbrev pub joined : Place → List ℕ
 joined p = take (p .total .0 * 4) (p .bytes)
 
--- all numbers held, and the joined bytes pass (01, Collector)
+-- all numbers held, and the joined bytes pass
 unfoldable pub whole : Place → Bool
 whole p = complete p && passes (joined p)
 
--- all numbers held, and they do not pass (01, Collector)
+-- all numbers held, and they do not pass
 unfoldable pub spoiled : Place → Bool
 spoiled p = complete p && not (passes (joined p))
 
@@ -154,7 +163,7 @@ state p = first ((spoiled p, 17) ∷ (whole p, 1) ∷ [])
 unfoldable pub copyCases : Place → ℕ → List Case
 copyCases p n = (not (p .held && whole p), 18) ∷ (ltb n (packetSize (joined p)), 10) ∷ []
 
--- the number, and P beside 0 (01, Numbers given back)
+-- the number, and P beside 0
 unfoldable pub copyAnswer : ℕ → Place → Copied
 copyAnswer a p = record { answer = a; length = cond (eqb a 0) (packetSize (joined p)) 0 }
 

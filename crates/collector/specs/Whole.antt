@@ -5,34 +5,26 @@ use mathlib.Core.List.{List}
 use Prim.Native.Nat.{ℕ, _+_, _*_}
 use lib.ListN.{length, getD, take, drop}
 use lib.Dec.{eqb, leb}
-use Rattle.laws.specs.Bits.{at, bits}
 use Rattle.laws.specs.Scan.{all}
 use Rattle.crc.specs.Crc16.{crc16}
-
--- L: 11 bits behind the 5 bits of the type (paper 01, "Packet")
-abbrev pub lengthField : List ℕ → ℕ
-lengthField b = at (bits b) 5 11
-
--- P (01, Collector)
-unfoldable pub packetSize : List ℕ → ℕ
-packetSize b = lengthField b + 2
+use Rattle.size.specs.Size.{packetSize}
 
 -- 4N − P − 2 is 0 to 3 (01, Collector)
 unfoldable pub sized : List ℕ → Bool
 sized b = leb (packetSize b + 2) (length b) && leb (length b) (packetSize b + 5)
 
--- bytes P and P + 1, high byte first, are the check of the P packet bytes only (01, Collector)
+-- bytes P and P + 1, high byte first, are the check of the P packet bytes only
 unfoldable pub checked : List ℕ → Bool
 checked b = eqb (crc16 (take (packetSize b) b)) (getD b (packetSize b) 0 * 256 + getD b (packetSize b + 1) 0)
 
--- a byte of the fill (01, Collector)
+-- a byte of the fill
 abbrev pub isFill : ℕ → Bool
 isFill x = eqb x 0xFF
 
--- the rest is 0xFF (01, Collector)
+-- the rest is 0xFF
 unfoldable pub filled : List ℕ → Bool
 filled b = all isFill (drop (packetSize b + 2) b)
 
--- size, check and fill are right (01, Collector)
+-- size, check and fill are right
 unfoldable pub passes : List ℕ → Bool
 passes b = sized b && (checked b && filled b)

@@ -3,7 +3,7 @@ ghost use mathlib.Core.Path.{_≡_};
 ghost use Prim.Native.Nat.{_+_, _<_};
 ghost use lib.ListN.{length, drop};
 ghost use Rattle.laws.specs.Scan.{all};
-ghost use Rattle.collector.specs.Places.{Small, apart};
+ghost use Rattle.collector.specs.Places.{Small, pairsApart};
 ghost use Rattle.collector.specs.Collector.{nothing, good, indexOfPair, indexOfFree, pieceWith, kept, takenIn, offered, released, answered, copied};
 
 mod places;
@@ -13,6 +13,7 @@ pub use frame::Heading;
 pub use frame::Number;
 pub use frame::Total;
 
+// Room for one packet: the pair and total that it is held for, a mark for each number held, and the bytes.
 pub struct Place {
     pub held: bool,
     pub level: u8,
@@ -22,6 +23,7 @@ pub struct Place {
     pub bytes: [u8; 252],
 }
 
+// The packets being collected.
 pub struct Collector {
     pub places: [Place; 4],
 }
@@ -35,11 +37,13 @@ pub struct Piece {
     pub d: u8,
 }
 
+// What an offer or a release gives back: its answer, and the collector then.
 pub struct Offered {
     pub answer: u8,
     pub collector: Collector,
 }
 
+// What a copy gives back: its answer, and how many bytes it wrote.
 pub struct Copied {
     pub answer: u8,
     pub length: usize,
@@ -49,14 +53,14 @@ pub struct Copied {
 pub fn empty() -> Collector
     ensures { λ r. ⌜ r ≡ nothing ⌝ }
 {
-    let p = places::free();
+    let p = places::never_taken();
     Collector { places: [p; 4] }
 }
 
 // No place after `i` is held for the pair of `p`.
 fn alone(c: Collector, p: Place, i: usize) -> bool
     requires { ⌜ i < 4 ⌝ }
-    ensures { λ r. ⌜ r ≡ all (apart p) (drop (i + 1) (c .places)) ⌝ }
+    ensures { λ r. ⌜ r ≡ all (pairsApart p) (drop (i + 1) (c .places)) ⌝ }
 {
     let mut j = i + 1;
     while j < 4 {
@@ -204,7 +208,7 @@ pub fn release(collector: Collector, level: u8, version: u8) -> Offered
     if i < 4 {
         let p = collector.places[i];
         let mut c = collector;
-        c.places[i] = places::freed(p);
+        c.places[i] = places::make_free(p);
         return Offered {
             answer: 0,
             collector: c,

@@ -6,7 +6,7 @@ ghost use Prim.Native.Nat.{_+_, _*_, _<_, _≤_};
 ghost use lib.ListN.{length, getD, take, drop};
 ghost use Rattle.laws.specs.Refusals.{first};
 ghost use Rattle.collector.specs.Whole.{passes};
-ghost use Rattle.collector.specs.Places.{Small, free as nowhere, isPair, samePair, withMark, marksBelow, complete as allHeld, fair, sameFour, against, stored, taken, freed as madeFree, joined, state, copyCases, copyAnswer, copyBytes};
+ghost use Rattle.collector.specs.Places.{Small, free, isPair, samePair, withMark, astray, marksBelow, complete, fair, sameFour, against, stored, takenFor, freed, joined, state, copyCases, copyAnswer, copyBytes};
 use crate::Copied;
 use crate::Number;
 use crate::Piece;
@@ -15,8 +15,8 @@ use crate::Total;
 use crate::whole;
 
 // A place that was never taken.
-pub(crate) fn free() -> Place
-    ensures { λ r. ⌜ r ≡ nowhere ⌝ }
+pub(crate) fn never_taken() -> Place
+    ensures { λ r. ⌜ r ≡ free ⌝ }
 {
     Place {
         held: false,
@@ -68,34 +68,45 @@ fn set_mark(marks: &mut [bool; 63], number: Number)
     marks[n] = true;
 }
 
-// No mark stands at a number that is not below the total.
+// Whether the number is marked and not below the total.
+fn is_astray(p: Place, number: Number) -> bool
+    requires { ⌜ number .0 < 63 ⌝ }
+    ensures { λ r. ⌜ r ≡ astray p number ⌝ }
+{
+    if number.0 < p.total.0 {
+        return false;
+    }
+    is_marked(&p.marks, number)
+}
+
+// No number is marked that is not below the total.
 fn marks_below(p: Place) -> bool
     ensures { λ r. ⌜ r ≡ marksBelow p ⌝ }
 {
-    let mut n = p.total.0;
-    while n < 63 {
-        if is_marked(&p.marks, Number(n)) {
+    let mut number = Number(0);
+    while number.0 < 63 {
+        if is_astray(p, number) {
             return false;
         }
-        n += 1;
+        number = Number(number.0 + 1);
     }
     true
 }
 
 // Every number below the total is held.
-fn complete(p: Place) -> bool
-    ensures { λ r. ⌜ r ≡ allHeld p ⌝ }
+fn is_complete(p: Place) -> bool
+    ensures { λ r. ⌜ r ≡ complete p ⌝ }
 {
     let total = p.total;
-    let mut n: u8 = 0;
-    while n < 63 {
-        if n == total.0 {
-            return true;
-        }
-        if !is_marked(&p.marks, Number(n)) {
+    if total.0 > 63 {
+        return false;
+    }
+    let mut number = Number(0);
+    while number.0 < total.0 {
+        if !is_marked(&p.marks, number) {
             return false;
         }
-        n += 1;
+        number = Number(number.0 + 1);
     }
     true
 }
@@ -160,7 +171,7 @@ pub(crate) fn held_against(p: Place, x: Piece) -> u8
 
 // A place taken for the frame's pair, zeroed, with no mark.
 pub(crate) fn take(x: Piece) -> Place
-    ensures { λ r. ⌜ r ≡ taken x ⌝ }
+    ensures { λ r. ⌜ r ≡ takenFor x ⌝ }
 {
     let total = x.heading.total;
     let marks = [false; 63];
@@ -192,8 +203,8 @@ pub(crate) fn store(p: Place, x: Piece) -> Place
 }
 
 // The place made free, bytes and marks as they were.
-pub(crate) fn freed(p: Place) -> Place
-    ensures { λ r. ⌜ r ≡ madeFree p ⌝ }
+pub(crate) fn make_free(p: Place) -> Place
+    ensures { λ r. ⌜ r ≡ freed p ⌝ }
 {
     let mut q = p;
     q.held = false;
@@ -207,9 +218,9 @@ fn joined_passes(p: Place) -> bool
     let n = p.total.0 as usize * 4;
     let b = p.bytes;
     if n <= 252 {
-        whole::passes(&b[0..n])
+        whole::is_whole(&b[0..n])
     } else {
-        whole::passes(&b)
+        whole::is_whole(&b)
     }
 }
 
@@ -217,7 +228,7 @@ fn joined_passes(p: Place) -> bool
 pub(crate) fn state_of(p: Place) -> u8
     ensures { λ r. ⌜ r ≡ state p ⌝ }
 {
-    if !complete(p) {
+    if !is_complete(p) {
         return 0;
     }
     if joined_passes(p) { 1 } else { 17 }
@@ -248,7 +259,7 @@ pub(crate) fn copy_out(p: Place, out: &mut [u8]) -> Copied
         };
     }
     let b = p.bytes;
-    let n = whole::packet_size(&b);
+    let n = size::packet_size(&b);
     if out.len() < n {
         return Copied {
             answer: 10,

@@ -1,23 +1,12 @@
 // Whether joined bytes are a whole packet: their size, the packet check, the fill.
 ghost use mathlib.Core.Path.{_≡_};
-ghost use Prim.Native.Nat.{_≤_};
-ghost use lib.ListN.{length};
 ghost use Rattle.laws.specs.Scan.{all};
-ghost use Rattle.collector.specs.Whole.{packetSize, isFill, passes as rule};
+ghost use Rattle.collector.specs.Whole.{isFill, passes};
 
 fn wide(x: u8) -> u16
     ensures { λ r. ⌜ r ≡ x ⌝ }
 {
     x as u16
-}
-
-// What the length field says, and two: the size of the packet.
-pub(crate) fn packet_size(b: &[u8]) -> usize
-    requires { ⌜ 2 ≤ length (now b) ⌝ }
-    ensures { λ r. ⌜ r ≡ packetSize (now (b .entry)) ⌝ }
-{
-    let l = wide(b[0]) % 8 * 256 + wide(b[1]);
-    l as usize + 2
 }
 
 fn all_fill(b: &[u8]) -> bool
@@ -33,13 +22,10 @@ fn all_fill(b: &[u8]) -> bool
     true
 }
 
-pub(crate) fn passes(b: &[u8]) -> bool
-    ensures { λ r. ⌜ r ≡ rule (now (b .entry)) ⌝ }
+pub(crate) fn is_whole(b: &[u8]) -> bool
+    ensures { λ r. ⌜ r ≡ passes (now (b .entry)) ⌝ }
 {
-    if b.len() < 4 {
-        return false;
-    }
-    let p = packet_size(b);
+    let p = size::packet_size(b);
     if b.len() < p + 2 {
         return false;
     }

@@ -16,7 +16,7 @@ use Rattle.laws.proofs.Refusals.{done, listed}
 use Rattle.frame.specs.declared.Total.{Total}
 use Rattle.frame.specs.declared.Number.{Number}
 use Rattle.frame.specs.declared.Heading.{Heading}
-use Rattle.frame.specs.Heading.{levelOf, versionOf, totalOf, numberOf, fixed, reserved, outside, refusals, fieldsOf, noHeading, headingOf}
+use Rattle.frame.specs.Heading.{levelOf, versionOf, totalOf, numberOf, fixed, reserved, outside, refusals, headingFields, noHeading, headingOf}
 
 -- the fields of an accepted heading: level 1 to 6, version to 31, number below total, total to 63
 pub record Bounds (h : Heading) : Type 0 where
@@ -73,9 +73,9 @@ module _ (f : List ℕ) where
   answer-is = refl
 
   module _ (e : first (refusals f) ≡ 0) where
-    pub fields-are : headingOf f .heading ≡ fieldsOf f
+    pub fields-are : headingOf f .heading ≡ headingFields f
     unfolding headingOf
-    fields-are = if-yes (fieldsOf f) noHeading (eq-eqb _ _ e)
+    fields-are = if-yes (headingFields f) noHeading (eq-eqb _ _ e)
 
     -- every case of the list is passed
     passed : (eqb (length f) 8 ≡ true) × (fixed f ≡ true) × (reserved (levelOf f) ≡ false) × (outside (totalOf f) (numberOf f) ≡ false)
@@ -101,8 +101,8 @@ module _ (f : List ℕ) where
     pub is-fixed : fixed f ≡ true
     is-fixed = passed .1
 
-    pub bounds : Bounds (fieldsOf f)
-    unfolding fieldsOf
+    pub bounds : Bounds (headingFields f)
+    unfolding headingFields
     bounds =
         let l = level-bounds (levelOf f) (passed .2) in
         let n = number-below-total (totalOf f) (numberOf f) (passed .3) in

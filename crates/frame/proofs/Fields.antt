@@ -16,7 +16,7 @@ use Rattle.laws.proofs.Refusals.{stop, pass, none-left}
 use Rattle.frame.specs.declared.Total.{Total}
 use Rattle.frame.specs.declared.Number.{Number}
 use Rattle.frame.specs.declared.Heading.{Heading}
-use Rattle.frame.specs.Heading.{levelOf, versionOf, totalOf, numberOf, fixed, reserved, outside, refusals, fieldsOf, noHeading, headingOf}
+use Rattle.frame.specs.Heading.{levelOf, versionOf, totalOf, numberOf, fixed, reserved, outside, refusals, headingFields, noHeading, headingOf}
 
 module _ (f : List ℕ) where
   pub level-byte : getD f 0 0 < 256 → levelOf f ≡ getD f 0 0 / 32
@@ -119,13 +119,13 @@ module _ (f : List ℕ) where
   unfolding headingOf
   is-refused n z e =
       ap₂ (λ (a : ℕ) (h : Heading). record { answer = a; heading = h }) (sym e)
-      (sym (if-no (fieldsOf f) noHeading (ne-eqb _ _ (λ (q : first (refusals f) ≡ 0). z (sym e ∙ q)))))
+      (sym (if-no (headingFields f) noHeading (ne-eqb _ _ (λ (q : first (refusals f) ≡ 0). z (sym e ∙ q)))))
 
-  pub is-accepted : first (refusals f) ≡ 0 → record { answer = 0; heading = fieldsOf f } ≡ headingOf f
+  pub is-accepted : first (refusals f) ≡ 0 → record { answer = 0; heading = headingFields f } ≡ headingOf f
   unfolding headingOf
   is-accepted e =
       ap₂ (λ (a : ℕ) (h : Heading). record { answer = a; heading = h }) (sym e)
-      (sym (if-yes (fieldsOf f) noHeading (eq-eqb _ _ e)))
+      (sym (if-yes (headingFields f) noHeading (eq-eqb _ _ e)))
 
 -- ---- the answer by the bytes, one law for each way out of the code
 module _ (f : List ℕ) (byte : (i : ℕ) → getD f i 0 < 256) where
@@ -167,7 +167,7 @@ module _ (f : List ℕ) (byte : (i : ℕ) → getD f i 0 < 256) where
                 number = record { 0 = getD f 1 0 % 4 * 16 + getD f 3 0 % 16 };
               };
             } ≡ headingOf f
-        unfolding fieldsOf
+        unfolding headingFields
         says-0 h =
             let el = level-byte f (byte 0) in
             let ev = version-byte f in

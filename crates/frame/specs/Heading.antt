@@ -18,19 +18,19 @@ use Rattle.frame.specs.declared.Headed.{Headed}
 abbrev pub levelOf : List ℕ → ℕ
 levelOf f = at (bits f) 0 3
 
--- the next five (000, table 22)
+-- the next five
 abbrev pub versionOf : List ℕ → ℕ
 versionOf f = at (bits f) 3 5
 
--- the next six (000, table 22)
+-- the next six
 abbrev pub totalOf : List ℕ → Total
 totalOf f = record { 0 = at (bits f) 8 6 }
 
--- its high bits end block 1, its low bits end block 2 (000, table 22)
+-- its high bits end block 1, its low bits end block 2
 abbrev pub numberOf : List ℕ → Number
 numberOf f = record { 0 = at (bits f) 14 2 * 2 ^ 4 + at (bits f) 28 4 }
 
--- block 2 begins 10110, 000000, 0 (000, table 22)
+-- block 2 begins 10110, 000000, 0
 unfoldable pub fixed : List ℕ → Bool
 fixed f = eqb (at (bits f) 16 5) 0b10110 && (eqb (at (bits f) 21 6) 0 && eqb (at (bits f) 27 1) 0)
 
@@ -40,7 +40,7 @@ fixed f = eqb (at (bits f) 16 5) 0b10110 && (eqb (at (bits f) 21 6) 0 && eqb (at
 unfoldable pub reserved : ℕ → Bool
 reserved level = eqb level 0 || leb 7 level
 
--- the total counts from 1, the number from 0 (01, Frame heading)
+-- the total counts from 1, the number from 0
 unfoldable pub outside : Total → Number → Bool
 outside total number = eqb (total .0) 0 || leb (total .0) (number .0)
 
@@ -54,19 +54,19 @@ refusals f =
     ∷ []
 
 -- the four fields together (01, Frame heading)
-unfoldable pub fieldsOf : List ℕ → Heading
-fieldsOf f = record { level = levelOf f; version = versionOf f; total = totalOf f; number = numberOf f }
+unfoldable pub headingFields : List ℕ → Heading
+headingFields f = record { level = levelOf f; version = versionOf f; total = totalOf f; number = numberOf f }
 
 -- beside a refusal every field is zero (01, Numbers given back)
 abbrev pub noHeading : Heading
 noHeading = record { level = 0; version = 0; total = record { 0 = 0 }; number = record { 0 = 0 } }
 
--- the answer, and the fields where it is 0 (01, Numbers given back)
+-- the answer, and the fields where it is 0
 unfoldable pub headingOf : List ℕ → Headed
 headingOf f =
     record {
       answer = first (refusals f);
-      heading = cond (eqb (first (refusals f)) 0) (fieldsOf f) noHeading;
+      heading = cond (eqb (first (refusals f)) 0) (headingFields f) noHeading;
     }
 
 -- the heading is accepted (01, Frame heading)
@@ -94,6 +94,6 @@ headingBits h =
 unfoldable pub headingWords : Heading → ℕ × ℕ
 headingWords h = (at (headingBits h) 0 16, at (headingBits h) 16 16)
 
--- the same bits as bytes (01, Frame heading)
+-- the same bits as bytes
 unfoldable pub headingBytes : Heading → List ℕ
 headingBytes h = bytes (headingBits h)

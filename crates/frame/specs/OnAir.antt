@@ -10,17 +10,17 @@ use Rattle.block.specs.declared.Letter.the-variants.{A, B, C, D}
 unfoldable pub blockBits : ℕ → Letter → List ℕ
 blockBits word letter = bitsOf 16 word ++ bitsOf 10 (checkWord word (offsetOf letter))
 
--- the four blocks of a frame, each with its sixteen of the frame's 64 information bits (01, Blocks)
+-- the four blocks of a frame, each with its sixteen of the frame's 64 information bits
 unfoldable pub frameBits : List ℕ → List ℕ
 frameBits f =
     blockBits (at (bits f) 0 16) A
     ++ (blockBits (at (bits f) 16 16) B ++ (blockBits (at (bits f) 32 16) C ++ blockBits (at (bits f) 48 16) D))
 
--- its bytes on air (01, Blocks)
+-- its bytes on air
 unfoldable pub airBytes : List ℕ → List ℕ
 airBytes f = bytes (frameBits f)
 
--- the air bytes of frames, one after the other (01, Blocks)
+-- the air bytes of frames, one after the other
 unfoldable pub streamOf : List (List ℕ) → List ℕ
 streamOf [] = []
 streamOf (f ∷ fs) = airBytes f ++ streamOf fs

@@ -8,6 +8,7 @@ pub struct Total(pub u8);
 // Which of them a frame is, from 0 to 62.
 pub struct Number(pub u8);
 
+// What a frame says of itself: the pair that it is of, how many frames there are, and which of them it is.
 pub struct Heading {
     pub level: u8,
     pub version: u8,
@@ -15,6 +16,7 @@ pub struct Heading {
     pub number: Number,
 }
 
+// What reading a heading gives back: the answer, and the heading; its fields are zero beside a refusal.
 pub struct Headed {
     pub answer: u8,
     pub heading: Heading,

@@ -11,7 +11,7 @@ use borrow.Rule.Slice.PartMut.{putMid}
 use Rattle.laws.proofs.Cases.{if-yes, if-no}
 use Rattle.laws.proofs.Writes.{sets-append, from-front}
 use Rattle.laws.proofs.Parts.{in-part}
-use Rattle.lines.specs.Lines.{hexOf, decimalOf, lineOf, writtenOf, outputOf}
+use Rattle.lines.specs.Lines.{hexOf, decimalOf, lineOf, writtenOf, lineInto}
 use Rattle.lines.proofs.Laws.{length-hex}
 
 module _ (frame : List ℕ) (answer : ℕ) where
@@ -23,16 +23,16 @@ module _ (frame : List ℕ) (answer : ℕ) where
 
   module _ (out : List ℕ) where
     -- too short an output is left as it was
-    pub nothing : length out < 2 * length frame + length (decimalOf answer) + 2 → (0 ≡ writtenOf frame answer out) × (out ≡ outputOf frame answer out)
-    unfolding writtenOf outputOf
+    pub nothing : length out < 2 * length frame + length (decimalOf answer) + 2 → (0 ≡ writtenOf frame answer out) × (out ≡ lineInto frame answer out)
+    unfolding writtenOf lineInto
     nothing h =
         let no = lt-ltb (length out) (length (lineOf frame answer)) (omega (arith, length-line)) in
         (sym (if-yes _ _ no), sym (if-yes _ _ no))
 
     -- else the line stands first, and the rest as it was
     pub all : 2 * length frame + length (decimalOf answer) + 2 ≤ length out → (n : ℕ) → n ≡ 2 * length frame + length (decimalOf answer) + 2 → (last : List ℕ) → last ≡ sets out 0 (lineOf frame answer)
-        → (n ≡ writtenOf frame answer out) × (last ≡ outputOf frame answer out)
-    unfolding writtenOf outputOf
+        → (n ≡ writtenOf frame answer out) × (last ≡ lineInto frame answer out)
+    unfolding writtenOf lineInto
     all h n e last w =
         let go = le-ltb (length out) (length (lineOf frame answer)) (omega (arith, length-line)) in
         (e ∙ sym length-line ∙ sym (if-no _ _ go), w ∙ from-front (lineOf frame answer) out (omega (arith, length-line)) ∙ sym (if-no _ _ go))

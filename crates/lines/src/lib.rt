@@ -4,7 +4,7 @@ ghost use mathlib.Core.List.{[], _∷_, _++_};
 ghost use Prim.Native.Nat.{_+_, _*_, _<_, _≤_};
 ghost use lib.ListN.{length};
 ghost use lib.Seq.{sets};
-ghost use Rattle.lines.specs.Lines.{glyph, hexOf, decimalOf, writtenOf, outputOf};
+ghost use Rattle.lines.specs.Lines.{glyph, hexOf, decimalOf, writtenOf, lineInto};
 
 // 0 to 9, A to F.
 fn hex_glyph(d: u8) -> u8
@@ -65,7 +65,7 @@ fn put_answer(answer: u8, out: &mut [u8])
 // Writes the frame's line at the output's start and answers its length; where the output is too short it writes nothing and answers 0.
 pub fn frame_line(frame: &[u8], answer: u8, out: &mut [u8]) -> usize
     ensures length { λ r. ⌜ r ≡ writtenOf (now (frame .entry)) answer (now (out .entry)) ⌝ }
-    ensures output { λ _. ⌜ now (out .exit) ≡ outputOf (now (frame .entry)) answer (now (out .entry)) ⌝ }
+    ensures output { λ _. ⌜ now (out .exit) ≡ lineInto (now (frame .entry)) answer (now (out .entry)) ⌝ }
 {
     let digits = decimal_length(answer);
     let room = out.len();

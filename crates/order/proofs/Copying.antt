@@ -17,15 +17,15 @@ use Rattle.frame.specs.declared.Number.{Number}
 use Rattle.collector.specs.declared.Place.{Place}
 use Rattle.collector.specs.declared.Collector.{Collector}
 use Rattle.collector.specs.declared.Copied.{Copied}
-use Rattle.collector.specs.Whole.{packetSize, passes}
-use Rattle.collector.specs.Places.{blank, isPair, complete, joined, whole, copyCases, copyAnswer, copyBytes}
+use Rattle.size.specs.Size.{packetSize}
+use Rattle.collector.specs.Whole.{passes}
+use Rattle.collector.specs.Places.{blank, isPair, shaped, complete, joined, whole, copyCases, copyAnswer, copyBytes}
 use Rattle.collector.specs.Collector.{indexOfPair, placeOf, answered, copied}
 use Rattle.collector.proofs.Calls.{copy-none, copy-held}
 use Rattle.collector.proofs.AllPlaces.{good-at, total-small, is-not-held}
-use Rattle.order.specs.Held.{fourAt, heldPlace, holdsIn, totalIn, holds, totalHeld}
+use Rattle.order.specs.Held.{Good, fourAt, heldPlace, holdsIn, totalIn, holds, totalHeld}
 use Rattle.order.specs.Given.{full, joinedBy}
 use Rattle.order.proofs.HeldPlace.{held-place-found, held-place-missing}
-use Rattle.order.proofs.Keeping.{shaped, Good}
 use Rattle.order.proofs.Declaring.{full-alike, joined-alike, complete-full, joined-full}
 use Rattle.order.proofs.Running.{some-inj, none-some}
 

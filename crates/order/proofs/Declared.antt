@@ -1,8 +1,9 @@
 -- Each pair that is completed is declared exactly once, and no other ever. Assumes nothing.
 use mathlib.Core.Path.{_≡_, refl, sym, ap, ap₂, subst, _∙_}
 use mathlib.Core.List.{List, [], _∷_, _++_, append-assoc, append-nil, List·Memᴰ, List·Memᴰ·head, List·Memᴰ·tail}
+use mathlib.Core.Logic.{_↔_}
 use mathlib.Core.Option.{Option, none, some}
-use mathlib.Core.Bool.{Bool, true, false, cond, not, _&&_, _||_, false≢true, and-false}
+use mathlib.Core.Bool.{Bool, true, false, cond, not, _&&_, _||_, false≢true, true≢false, and-false}
 use Prim.Native.Nat.{ℕ, _+_, _<_}
 use native.Mathlib.Omega.{arith}
 use lib.Dec.{eqb}
@@ -183,6 +184,16 @@ module _ (qs : List Pair) (ps : List Piece) (x : Piece) (fd : Feed qs (ps ++ (x 
       (λ p.
       ap₂ (λ (b k : Bool). one-if b + one-if k) (sym (other-pair i j p)) (and-no _ p) ∙ omega arith)
 
+one-step : (a d b : Bool) → one-if a + one-if d ≡ one-if b → (d ≡ true) ↔ ((a ≡ false) × (b ≡ true))
+unfolding one-if
+one-step true true true e = absurd (omega arith)
+one-step true true false e = absurd (omega arith)
+one-step true false b e = (λ q. absurd (false≢true q), λ w. absurd (true≢false (w .0)))
+one-step false true true e = (λ q. (refl, refl), λ w. refl)
+one-step false true false e = absurd (omega arith)
+one-step false false true e = absurd (omega arith)
+one-step false false false e = (λ q. absurd (false≢true q), λ w. absurd (false≢true (w .1)))
+
 -- ---- a run
 offer-last : (fs : List (List ℕ)) (f : List ℕ) (c : Collector) → offerAll c (fs ++ (f ∷ [])) ≡ offered (offerAll c fs) f .collector
 unfolding offerAll
@@ -213,6 +224,16 @@ module _ (qs : List Pair) (l v : ℕ) where
       ap (λ (k : ℕ). eqb k 1 || eqb k 17) a ∙ refused-with f n (λ (k : ℕ). (eqb k 1 || eqb k 17) ≡ false) refl refl refl refl in
       ap₂ (λ (w : List Piece) (b : Bool). one-if (completed w l v) + one-if b) (sym (now ∙ append-nil ps)) (ap (λ (b : Bool). ofPair l v (pieceOf f) && b) no ∙ and-false (ofPair l v (pieceOf f)))
       ∙ omega arith)
+
+  -- A pair is declared at a frame exactly when its numbers were not all given before it, and with it they are.
+  pub declared-at : (before : List (List ℕ)) (f : List ℕ) (rest : List (List ℕ)) → Bounded qs (before ++ (f ∷ rest))
+      → (declares l v (offerAll nothing before) f ≡ true)
+      ↔ ((completed (pieces before) l v ≡ false) × (completed (pieces (before ++ (f ∷ []))) l v ≡ true))
+  declared-at before f rest r =
+      let more = append-assoc before (f ∷ []) rest in
+      one-step (completed (pieces before) l v) (declares l v (offerAll nothing before) f) (completed (pieces (before ++ (f ∷ []))) l v)
+      (step-counts before f
+      (bounded-among qs (before ++ (f ∷ rest)) (before ++ (f ∷ [])) r (λ g m. subst (List·Memᴰ g) more (mem-left g (before ++ (f ∷ [])) rest m))))
 
   counts : (rest before : List (List ℕ)) → Bounded qs (before ++ rest)
       → one-if (completed (pieces before) l v) + declarations l v (offerAll nothing before) rest ≡ one-if (completed (pieces (before ++ rest)) l v)

@@ -5,23 +5,21 @@ use mathlib.Core.Option.{Option, none, some}
 use mathlib.Core.Bool.{Bool, true, false, cond, not, _&&_}
 use Prim.Native.Nat.{ℕ, zero, suc, _+_, _*_, _≤_, _<_}
 use native.Mathlib.Omega.{arith}
-use lib.ListN.{length, getD, take, drop, length-take}
-use lib.Seq.{take-suc, take-add, drop-cons, getD-take}
-use lib.Dec.{eqb}
-use borrow.Author.Tests.{eqb-true}
+use lib.ListN.{length, getD, take, drop}
+use lib.Seq.{take-add, drop-cons}
 use Rattle.laws.specs.Below.{below}
-use Rattle.laws.specs.Scan.{all}
 use Rattle.laws.specs.Refusals.{first}
-use Rattle.laws.proofs.Cases.{if-yes, and-no, and-left, and-right}
-use Rattle.laws.proofs.Elements.{by-test, all-at}
+use Rattle.laws.proofs.Below.{at-each}
+use Rattle.laws.proofs.Cases.{if-yes, and-no}
+use Rattle.laws.proofs.Elements.{by-test}
 use Rattle.frame.specs.declared.Total.{Total}
 use Rattle.frame.specs.declared.Number.{Number}
 use Rattle.collector.specs.declared.Place.{Place}
 use Rattle.collector.specs.Whole.{passes}
-use Rattle.collector.specs.Places.{isSet, marked, complete, joined, whole, spoiled, state}
+use Rattle.collector.proofs.Marks.{bytes-long}
+use Rattle.collector.specs.Places.{marked, complete, shaped, joined, whole, spoiled, state}
 use Rattle.order.specs.Held.{Four, bytesAt, fourAt}
 use Rattle.order.specs.Given.{isSome, full, bytesOf, joinedTo, joinedBy, declareCases}
-use Rattle.order.proofs.Keeping.{shaped}
 
 -- ---- marks
 some-when : {A : Type 0} (b : Bool) (x : A) → isSome (cond b (some x) none) ≡ b
@@ -35,23 +33,6 @@ four-marked p n = some-when (marked p n) (bytesAt p n)
 pub marked-four : (p : Place) (n : Number) → marked p n ≡ true → fourAt p n ≡ some (bytesAt p n)
 unfolding fourAt
 marked-four p n e = if-yes (some (bytesAt p n)) none e
-
-all-snoc : (xs : List Bool) (b : Bool) → all isSet (xs ++ (b ∷ [])) ≡ (b && all isSet xs)
-unfolding all
-all-snoc [] b = refl
-all-snoc (x ∷ xs) b = ap (λ (t : Bool). x && t) (all-snoc xs b) ∙ swap x b (all isSet xs)
-  where
-    swap : (s t u : Bool) → (s && (t && u)) ≡ (t && (s && u))
-    swap true true u = refl
-    swap true false u = refl
-    swap false true u = refl
-    swap false false u = refl
-
-all-below : (ms : List Bool) (t : ℕ) → t ≤ length ms → all isSet (take t ms) ≡ below t (λ n. getD ms n false)
-unfolding below all
-all-below ms zero h = refl
-all-below ms (suc t) h =
-    ap (all isSet) (take-suc ms t false h) ∙ all-snoc (take t ms) (getD ms t false) ∙ ap (λ (b : Bool). getD ms t false && b) (all-below ms t (omega arith))
 
 -- ---- what is said of every number below the total, and the bytes joined, by what stands at each number
 pub below-alike : (t : ℕ) (f g : ℕ → Bool) → ((n : ℕ) → f n ≡ g n) → below t f ≡ below t g
@@ -92,35 +73,25 @@ four-taken b k h =
     ∙ ap (λ (l : List ℕ). getD b k 0 ∷ getD b (k + 1) 0 ∷ getD b (k + 2) 0 ∷ take 1 l) (drop-cons b (k + 3) 0 (omega arith))
 
 module _ (p : Place) (s : shaped p ≡ true) (t : p .total .0 ≤ 63) where
-  marks-length : length (p .marks) ≡ 63
-  marks-length = eqb-true _ _ (and-left (eqb (length (p .marks)) 63) (eqb (length (p .bytes)) 252) s)
-
-  bytes-length : length (p .bytes) ≡ 252
-  bytes-length = eqb-true _ _ (and-right (eqb (length (p .marks)) 63) (eqb (length (p .bytes)) 252) s)
-
   pub complete-full : complete p ≡ full (p .total) (fourAt p)
   unfolding complete full
   complete-full =
-      all-below (p .marks) (p .total .0) (omega (arith, marks-length))
-      ∙ below-alike (p .total .0) (λ n. getD (p .marks) n false) (λ n. isSome (fourAt p (record { 0 = n }))) (λ n. sym (four-marked p (record { 0 = n })))
+      below-alike (p .total .0) (λ n. marked p (record { 0 = n })) (λ n. isSome (fourAt p (record { 0 = n }))) (λ n. sym (four-marked p (record { 0 = n })))
 
-  joined-upto : (k : ℕ) → k ≤ p .total .0 → ((n : ℕ) → n < k → getD (p .marks) n false ≡ true) → take (k * 4) (p .bytes) ≡ joinedTo k (fourAt p)
+  joined-upto : (k : ℕ) → k ≤ p .total .0 → ((n : ℕ) → n < k → marked p (record { 0 = n }) ≡ true) → take (k * 4) (p .bytes) ≡ joinedTo k (fourAt p)
   unfolding joinedTo
   joined-upto zero h m = refl
   joined-upto (suc k) h m =
       let e : suc k * 4 ≡ k * 4 + 4 = omega arith in
-      let l = bytes-length in
+      let l = bytes-long p s in
       ap (λ (n : ℕ). take n (p .bytes)) e
       ∙ take-add (k * 4) 4 (p .bytes)
       ∙ ap₂ (λ (a b : List ℕ). a ++ b) (joined-upto k (omega arith) (λ n w. m n (omega arith)))
       (four-taken (p .bytes) (k * 4) (omega arith) ∙ sym (ap bytesOf (marked-four p (record { 0 = k }) (m k (omega arith)))))
 
-  marks-set : complete p ≡ true → (n : ℕ) → n < p .total .0 → getD (p .marks) n false ≡ true
+  marks-set : complete p ≡ true → (n : ℕ) → n < p .total .0 → marked p (record { 0 = n }) ≡ true
   unfolding complete
-  marks-set e n h =
-      let l = length-take (p .total .0) (p .marks) in
-      let ml = marks-length in
-      sym (getD-take (p .total .0) (p .marks) n false h) ∙ all-at isSet (take (p .total .0) (p .marks)) n false e (omega arith)
+  marks-set e n h = at-each (p .total .0) (λ k. marked p (record { 0 = k })) e n h
 
   pub joined-full : complete p ≡ true → joined p ≡ joinedBy (p .total) (fourAt p)
   joined-full e = joined-upto (p .total .0) (omega arith) (marks-set e)

@@ -14,7 +14,8 @@ use Rattle.laws.proofs.Elements.{by-test, index-yes, index-no}
 use Rattle.frame.specs.declared.Number.{Number}
 use Rattle.collector.specs.declared.Place.{Place}
 use Rattle.collector.specs.declared.Piece.{Piece}
-use Rattle.collector.specs.Places.{blank, isPair, marked, stored}
+use Rattle.collector.specs.Places.{blank, isPair, shaped, stored}
+use Rattle.collector.proofs.Marks.{bytes-long, mark-own, mark-other}
 use Rattle.order.specs.Held.{Four, fourAt, heldPlace}
 use Rattle.order.specs.Given.{four}
 
@@ -93,25 +94,22 @@ module _ (p : Place) (x : Piece) where
       ∙ getD-set-other b₁ (n * 4 + 1) j (x .b) 0 (λ (e : j ≡ n * 4 + 1). ne (omega arith))
       ∙ getD-set-other (p .bytes) (n * 4) j (x .a) 0 (λ (e : j ≡ n * 4). ne (omega arith))
 
-  pub mark-other : (m : Number) → (m .0 ≡ x .heading .number .0 → ⊥) → marked (stored p x) m ≡ marked p m
-  unfolding stored
-  mark-other m ne = getD-set-other (p .marks) (x .heading .number .0) (m .0) true false ne
-
   pub four-other : (m : Number) → (m .0 ≡ x .heading .number .0 → ⊥) → fourAt (stored p x) m ≡ fourAt p m
   unfolding fourAt
   four-other m ne =
       four-same
-      (mark-other m ne)
+      (mark-other p x m ne)
       (byte-other m (m .0 * 4) (omega arith) (omega arith) ne)
       (byte-other m (m .0 * 4 + 1) (omega arith) (omega arith) ne)
       (byte-other m (m .0 * 4 + 2) (omega arith) (omega arith) ne)
       (byte-other m (m .0 * 4 + 3) (omega arith) (omega arith) ne)
 
   -- at its own number stand its own four
-  pub four-own : x .heading .number .0 < length (p .marks) → x .heading .number .0 * 4 + 3 < length (p .bytes) → fourAt (stored p x) (x .heading .number) ≡ some (four x)
+  pub four-own : shaped p ≡ true → x .heading .number .0 < 63 → fourAt (stored p x) (x .heading .number) ≡ some (four x)
   unfolding fourAt stored
-  four-own hm hb =
+  four-own s h =
       let n = x .heading .number .0 in
+      let e₀ : length (p .bytes) ≡ 252 = bytes-long p s in
       let b₁ = set (p .bytes) (n * 4) (x .a) in
       let b₂ = set b₁ (n * 4 + 1) (x .b) in
       let b₃ = set b₂ (n * 4 + 2) (x .c) in
@@ -119,7 +117,7 @@ module _ (p : Place) (x : Piece) where
       let e₂ : length b₂ ≡ length b₁ = length-set b₁ (n * 4 + 1) (x .b) in
       let e₃ : length b₃ ≡ length b₂ = length-set b₂ (n * 4 + 2) (x .c) in
       four-same
-      (getD-set-same (p .marks) n true false hm)
+      (mark-own p x s h)
       (getD-set-other b₃ (n * 4 + 3) (n * 4) (x .d) 0 (λ (e : n * 4 ≡ n * 4 + 3). omega arith)
       ∙ getD-set-other b₂ (n * 4 + 2) (n * 4) (x .c) 0 (λ (e : n * 4 ≡ n * 4 + 2). omega arith)
       ∙ getD-set-other b₁ (n * 4 + 1) (n * 4) (x .b) 0 (λ (e : n * 4 ≡ n * 4 + 1). omega arith)

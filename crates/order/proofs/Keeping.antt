@@ -2,11 +2,10 @@
 use mathlib.Core.Path.{_≡_, refl, sym, ap, ap₂, subst, _∙_}
 use mathlib.Core.List.{List, [], _∷_}
 use mathlib.Core.Bool.{Bool, true, false, not, _&&_, _||_, and-false}
-use Prim.Native.Nat.{ℕ, zero, suc, _+_, _*_, _≤_, _<_}
+use Prim.Native.Nat.{ℕ, zero, suc, _≤_, _<_}
 use native.Mathlib.Nat.{not-suc-le-zero, le-of-suc-le-suc}
 use native.Mathlib.Omega.{arith}
-use lib.ListN.{length, getD, set, drop, replicate, length-set}
-use lib.Seq.{drop-set-lt}
+use lib.ListN.{length, getD, set, length-set}
 use lib.Dec.{leb, ltb, eqb}
 use borrow.Author.Tests.{ltb-true, ltb-false, eqb-true, eqb-false, eq-eqb, ne-eqb, le-leb}
 use Rattle.laws.specs.Scan.{all, indexOf}
@@ -19,73 +18,51 @@ use Rattle.collector.specs.declared.Place.{Place}
 use Rattle.collector.specs.declared.Collector.{Collector}
 use Rattle.collector.specs.declared.Piece.{Piece}
 use Rattle.collector.specs.declared.Offered.{Offered}
-use Rattle.collector.specs.Places.{blank, isPair, apart, isClear, marksBelow, fair, stored, taken, freed}
+use Rattle.collector.specs.Places.{blank, isPair, pairsApart, fair, shaped, stored, takenFor, freed}
 use Rattle.collector.specs.Collector.{good, nothing, indexOfPair, itsPlace, pieceOf, put, takenIn, kept, offered, released}
 use Rattle.collector.proofs.Calls.{offer-heading, offer-taken, release-18, release-0}
 use Rattle.collector.proofs.AllPlaces.{good-at, is-held, is-not-held}
+use Rattle.collector.proofs.Marks.{stored-shaped, taken-shaped, freed-shaped, stored-below, taken-below}
+use Rattle.order.specs.Held.{Good}
 use Rattle.order.proofs.Outcome.{Outcome, turned, joins, starts, finds-none, outcome, atPair, atFree, total-agrees}
-
--- a place has the lengths that its arrays have
-abbrev pub shaped : Place → Bool
-shaped p = eqb (length (p .marks)) 63 && eqb (length (p .bytes)) 252
-
-pub record Good (c : Collector) : Type 0 where
-  pub count : length (c .places) ≡ 4
-  pub shape : all shaped (c .places) ≡ true
-  pub order : good (c .places) ≡ true
 
 module _ (x : Place) (xs : List Place) where
   good-ok : good (x ∷ xs) ≡ true → fair x ≡ true
   unfolding good
-  good-ok e = and-left (fair x) (all (apart x) xs && good xs) e
+  good-ok e = and-left (fair x) (all (pairsApart x) xs && good xs) e
 
-  pub good-apart : good (x ∷ xs) ≡ true → all (apart x) xs ≡ true
+  pub good-apart : good (x ∷ xs) ≡ true → all (pairsApart x) xs ≡ true
   unfolding good
-  good-apart e = and-left (all (apart x) xs) (good xs) (and-right (fair x) (all (apart x) xs && good xs) e)
+  good-apart e = and-left (all (pairsApart x) xs) (good xs) (and-right (fair x) (all (pairsApart x) xs && good xs) e)
 
   pub good-tail : good (x ∷ xs) ≡ true → good xs ≡ true
   unfolding good
-  good-tail e = and-right (all (apart x) xs) (good xs) (and-right (fair x) (all (apart x) xs && good xs) e)
+  good-tail e = and-right (all (pairsApart x) xs) (good xs) (and-right (fair x) (all (pairsApart x) xs && good xs) e)
 
-  good-cons : fair x ≡ true → all (apart x) xs ≡ true → good xs ≡ true → good (x ∷ xs) ≡ true
+  good-cons : fair x ≡ true → all (pairsApart x) xs ≡ true → good xs ≡ true → good (x ∷ xs) ≡ true
   unfolding good
-  good-cons a b c = and-yes (all (apart x) xs && good xs) a ∙ (and-yes (good xs) b ∙ c)
+  good-cons a b c = and-yes (all (pairsApart x) xs && good xs) a ∙ (and-yes (good xs) b ∙ c)
 
 -- a place is replaced by one of the same pair
 good-same : (xs : List Place) (i : ℕ) (q : Place) → i < length xs → good xs ≡ true → fair q ≡ true
-    → ((r : Place) → apart q r ≡ apart (getD xs i blank) r) → ((r : Place) → apart r q ≡ apart r (getD xs i blank)) → good (set xs i q) ≡ true
+    → ((r : Place) → pairsApart q r ≡ pairsApart (getD xs i blank) r) → ((r : Place) → pairsApart r q ≡ pairsApart r (getD xs i blank)) → good (set xs i q) ≡ true
 good-same [] i q h e k a b = absurd (not-suc-le-zero h)
 good-same (x ∷ xs) zero q h e k a b =
-    good-cons q xs k (all-map (apart x) (apart q) xs (λ r w. a r ∙ w) (good-apart x xs e)) (good-tail x xs e)
+    good-cons q xs k (all-map (pairsApart x) (pairsApart q) xs (λ r w. a r ∙ w) (good-apart x xs e)) (good-tail x xs e)
 good-same (x ∷ xs) (suc i) q h e k a b =
     good-cons x (set xs i q) (good-ok x xs e)
-    (all-set (apart x) xs i q (good-apart x xs e) (b x ∙ all-at (apart x) xs i blank (good-apart x xs e) (le-of-suc-le-suc h)))
+    (all-set (pairsApart x) xs i q (good-apart x xs e) (b x ∙ all-at (pairsApart x) xs i blank (good-apart x xs e) (le-of-suc-le-suc h)))
     (good-same xs i q (le-of-suc-le-suc h) (good-tail x xs e) k a b)
 
 -- a place is replaced by one whose pair no place has
 good-new : (xs : List Place) (i : ℕ) (q : Place) → i < length xs → good xs ≡ true → fair q ≡ true
-    → all (apart q) xs ≡ true → ((r : Place) → apart r q ≡ apart q r) → good (set xs i q) ≡ true
+    → all (pairsApart q) xs ≡ true → ((r : Place) → pairsApart r q ≡ pairsApart q r) → good (set xs i q) ≡ true
 good-new [] i q h e k a b = absurd (not-suc-le-zero h)
-good-new (x ∷ xs) zero q h e k a b = good-cons q xs k (all-tail (apart q) x xs a) (good-tail x xs e)
+good-new (x ∷ xs) zero q h e k a b = good-cons q xs k (all-tail (pairsApart q) x xs a) (good-tail x xs e)
 good-new (x ∷ xs) (suc i) q h e k a b =
     good-cons x (set xs i q) (good-ok x xs e)
-    (all-set (apart x) xs i q (good-apart x xs e) (b x ∙ all-head (apart q) x xs a))
-    (good-new xs i q (le-of-suc-le-suc h) (good-tail x xs e) k (all-tail (apart q) x xs a) b)
-
-pub stored-shaped : (p : Place) (x : Piece) → shaped (stored p x) ≡ shaped p
-unfolding stored
-stored-shaped p x =
-    let n = x .heading .number .0 in
-    ap₂ (λ (a b : ℕ). eqb a 63 && eqb b 252)
-    (length-set (p .marks) n true)
-    (length-set (set (set (set (p .bytes) (n * 4) (x .a)) (n * 4 + 1) (x .b)) (n * 4 + 2) (x .c)) (n * 4 + 3) (x .d)
-    ∙ length-set (set (set (p .bytes) (n * 4) (x .a)) (n * 4 + 1) (x .b)) (n * 4 + 2) (x .c)
-    ∙ length-set (set (p .bytes) (n * 4) (x .a)) (n * 4 + 1) (x .b)
-    ∙ length-set (p .bytes) (n * 4) (x .a))
-
-stored-below : (p : Place) (x : Piece) → x .heading .number .0 < p .total .0 → marksBelow (stored p x) ≡ marksBelow p
-unfolding marksBelow stored
-stored-below p x h = ap (all isClear) (drop-set-lt (p .total .0) (p .marks) (x .heading .number .0) true h)
+    (all-set (pairsApart x) xs i q (good-apart x xs e) (b x ∙ all-head (pairsApart q) x xs a))
+    (good-new xs i q (le-of-suc-le-suc h) (good-tail x xs e) k (all-tail (pairsApart q) x xs a) b)
 
 stored-ok : (p : Place) (x : Piece) → x .heading .number .0 < p .total .0 → fair (stored p x) ≡ fair p
 unfolding fair stored
@@ -96,19 +73,8 @@ stored-ok p x h =
     || (leb 1 (p .level) && (leb (p .level) 6 && (leb (p .version) 31 && (leb 1 (p .total .0) && (leb (p .total .0) 63 && b))))))
     (stored-below p x h)
 
-none-marked : (k t : ℕ) → all isClear (drop t (replicate k false)) ≡ true
-unfolding all
-none-marked zero zero = refl
-none-marked zero (suc t) = refl
-none-marked (suc k) zero = none-marked k zero
-none-marked (suc k) (suc t) = none-marked k t
-
-taken-below : (x : Piece) → marksBelow (taken x) ≡ true
-unfolding marksBelow taken
-taken-below x = none-marked 63 (x .heading .total .0)
-
-taken-ok : (x : Piece) → Bounds (x .heading) → fair (taken x) ≡ true
-unfolding fair taken
+taken-ok : (x : Piece) → Bounds (x .heading) → fair (takenFor x) ≡ true
+unfolding fair takenFor
 taken-ok x b =
     and-yes _ (le-leb 1 (x .heading .level) (b .level-low))
     ∙ and-yes _ (le-leb (x .heading .level) 6 (b .level-high))
@@ -130,14 +96,14 @@ and-swap true false c = refl
 and-swap false true c = refl
 and-swap false false c = refl
 
-apart-sym : (r q : Place) → apart r q ≡ apart q r
+apart-sym : (r q : Place) → pairsApart r q ≡ pairsApart q r
 apart-sym r q =
     ap not
     (and-swap (r .held) (q .held) (eqb (q .level) (r .level) && eqb (q .version) (r .version))
     ∙ ap₂ (λ (s t : Bool). q .held && (r .held && (s && t))) (eqb-sym (q .level) (r .level)) (eqb-sym (q .version) (r .version)))
 
 -- where no place is of a pair, each is apart from a place of that pair
-missing-apart : (q : Place) (l v : ℕ) (xs : List Place) → q .level ≡ l → q .version ≡ v → length xs ≤ indexOf (isPair l v) xs → all (apart q) xs ≡ true
+missing-apart : (q : Place) (l v : ℕ) (xs : List Place) → q .level ≡ l → q .version ≡ v → length xs ≤ indexOf (isPair l v) xs → all (pairsApart q) xs ≡ true
 unfolding all
 missing-apart q l v [] el ev h = refl
 missing-apart q l v (r ∷ rs) el ev h =
@@ -145,28 +111,24 @@ missing-apart q l v (r ∷ rs) el ev h =
     (λ e. let w = index-yes (isPair l v) r rs e in absurd (omega arith))
     (λ e.
     let w = index-no (isPair l v) r rs e in
-    all-cons (apart q) r rs
+    all-cons (pairsApart q) r rs
     (ap not (ap₂ (λ (a b : ℕ). q .held && isPair a b r) el ev ∙ ap (λ (t : Bool). q .held && t) e ∙ and-false (q .held)))
     (missing-apart q l v rs el ev (omega arith)))
 
-stored-apart : (p : Place) (x : Piece) (r : Place) → apart (stored p x) r ≡ apart p r
+stored-apart : (p : Place) (x : Piece) (r : Place) → pairsApart (stored p x) r ≡ pairsApart p r
 unfolding stored
 stored-apart p x r = refl
 
-stored-apart′ : (p : Place) (x : Piece) (r : Place) → apart r (stored p x) ≡ apart r p
+stored-apart′ : (p : Place) (x : Piece) (r : Place) → pairsApart r (stored p x) ≡ pairsApart r p
 unfolding stored
 stored-apart′ p x r = refl
 
-pub taken-shaped : (x : Piece) → shaped (taken x) ≡ true
-unfolding taken
-taken-shaped x = refl
-
-taken-pair : (x : Piece) → (taken x .level ≡ x .heading .level) × (taken x .version ≡ x .heading .version)
-unfolding taken
+taken-pair : (x : Piece) → (takenFor x .level ≡ x .heading .level) × (takenFor x .version ≡ x .heading .version)
+unfolding takenFor
 taken-pair x = (refl, refl)
 
-taken-total : (x : Piece) → taken x .total .0 ≡ x .heading .total .0
-unfolding taken
+taken-total : (x : Piece) → takenFor x .total .0 ≡ x .heading .total .0
+unfolding takenFor
 taken-total x = refl
 
 stored-number : (p : Place) (x : Piece) → (stored p x .level ≡ p .level) × (stored p x .version ≡ p .version)
@@ -194,18 +156,18 @@ module _ (c : Collector) (x : Piece) (g : Good c) (b : Bounds (x .heading)) wher
             (stored-apart p x) (stored-apart′ p x);
       }
 
-  pub started-good : length (c .places) ≤ atPair c x → atFree c < length (c .places) → Good (put c (atFree c) (stored (taken x) x))
+  pub started-good : length (c .places) ≤ atPair c x → atFree c < length (c .places) → Good (put c (atFree c) (stored (takenFor x) x))
   started-good none h =
-      let q = stored (taken x) x in
+      let q = stored (takenFor x) x in
       let n = b .number-below in
       let fp = taken-pair x in
-      let sk = stored-number (taken x) x in
+      let sk = stored-number (takenFor x) x in
       record {
         count = length-set (c .places) (atFree c) q ∙ g .count;
-        shape = all-set shaped (c .places) (atFree c) q (g .shape) (stored-shaped (taken x) x ∙ taken-shaped x);
+        shape = all-set shaped (c .places) (atFree c) q (g .shape) (stored-shaped (takenFor x) x ∙ taken-shaped x);
         order =
             good-new (c .places) (atFree c) q h (g .order)
-            (stored-ok (taken x) x (subst (λ (t : ℕ). x .heading .number .0 < t) (sym (taken-total x)) n) ∙ taken-ok x b)
+            (stored-ok (takenFor x) x (subst (λ (t : ℕ). x .heading .number .0 < t) (sym (taken-total x)) n) ∙ taken-ok x b)
             (missing-apart q (x .heading .level) (x .heading .version) (c .places) (sk .0 ∙ fp .0) (sk .1 ∙ fp .1) none)
             (λ r. apart-sym r q);
       }
@@ -221,7 +183,7 @@ module _ (c : Collector) (x : Piece) (g : Good c) (b : Bounds (x .heading)) wher
           (subst Good (sym (kept-collector c (atPair c x) (itsPlace c x) x)) (joined-good h (total-agrees c x e)))
       by-outcome (starts h k w) =
           subst (λ (o : Offered). Good (o .collector)) w
-          (subst Good (sym (kept-collector c (atFree c) (taken x) x)) (started-good h k))
+          (subst Good (sym (kept-collector c (atFree c) (takenFor x) x)) (started-good h k))
       by-outcome (finds-none h k w) = subst (λ (o : Offered). Good (o .collector)) w g
 
 pub empty-good : Good nothing
@@ -237,14 +199,14 @@ offer-good c f g =
     (λ t. subst (λ (o : Offered). Good (o .collector)) (offer-heading c f (g .order) (eqb-false _ _ t)) g)
 
 -- a place made free is fair, apart from every other, and has its lengths still
-freed-is : (p : Place) → (freed p .held ≡ false) × (shaped (freed p) ≡ shaped p)
+pub freed-is : (p : Place) → freed p .held ≡ false
 unfolding freed
-freed-is p = (refl, refl)
+freed-is p = refl
 
-free-apart : (q : Place) (xs : List Place) → q .held ≡ false → all (apart q) xs ≡ true
+free-apart : (q : Place) (xs : List Place) → q .held ≡ false → all (pairsApart q) xs ≡ true
 unfolding all
 free-apart q [] h = refl
-free-apart q (r ∷ rs) h = all-cons (apart q) r rs (ap not (and-no _ h)) (free-apart q rs h)
+free-apart q (r ∷ rs) h = all-cons (pairsApart q) r rs (ap not (and-no _ h)) (free-apart q rs h)
 
 free-fair : (q : Place) → q .held ≡ false → fair q ≡ true
 unfolding fair
@@ -256,9 +218,9 @@ freed-good c i g h =
     let k = freed-is p in
     record {
       count = length-set (c .places) i (freed p) ∙ g .count;
-      shape = all-set shaped (c .places) i (freed p) (g .shape) (k .1 ∙ all-at shaped (c .places) i blank (g .shape) h);
+      shape = all-set shaped (c .places) i (freed p) (g .shape) (freed-shaped p ∙ all-at shaped (c .places) i blank (g .shape) h);
       order =
-          good-new (c .places) i (freed p) h (g .order) (free-fair (freed p) (k .0)) (free-apart (freed p) (c .places) (k .0))
+          good-new (c .places) i (freed p) h (g .order) (free-fair (freed p) k) (free-apart (freed p) (c .places) k)
           (λ r. apart-sym r (freed p));
     }
 

@@ -12,3 +12,5 @@ pub mod Theorems
 pub mod Declared
 pub mod Repeats
 pub mod Staying
+pub mod Only
+pub mod Beyond

@@ -16,9 +16,9 @@ use Rattle.collector.specs.declared.Piece.{Piece}
 use Rattle.collector.specs.declared.Offered.{Offered}
 use Rattle.collector.specs.Collector.{pieceOf, takenIn, offered}
 use Rattle.collector.proofs.Calls.{offer-heading, offer-taken}
-use Rattle.order.specs.Held.{offerAll, takeAll}
-use Rattle.order.specs.Given.{pieces, four, ofPair, sameBytes, contradict, Pair, among, Bounded, Rearranged, none-left, one-kept, two-swapped, and-then}
-use Rattle.order.proofs.Keeping.{Good, offer-good}
+use Rattle.order.specs.Held.{Good, offerAll, takeAll}
+use Rattle.order.specs.Given.{pieces, four, ofPair, sameBytes, contradict, Pair, pairAmong, Bounded, Rearranged, none-left, one-kept, two-swapped, and-then}
+use Rattle.order.proofs.Keeping.{offer-good}
 use Rattle.order.proofs.Running.{Clear, Feed}
 
 pub accepted-none : (f : List ℕ) → accepted f ≡ true → first (refusals f) ≡ 0
@@ -149,7 +149,7 @@ feed qs fs r =
       fits = λ x i. let w = pieces-of x fs i in subst (λ (z : Piece). Bounds (z .heading)) (w .3) (bounds (w .0) (accepted-none (w .0) (w .2)));
       listed = λ x i.
           let w = pieces-of x fs i in
-          subst (λ (z : Piece). among (z .heading .level) (z .heading .version) qs ≡ true) (w .3) (r .listed (w .0) (w .1) (w .2));
+          subst (λ (z : Piece). pairAmong (z .heading .level) (z .heading .version) qs ≡ true) (w .3) (r .listed (w .0) (w .1) (w .2));
       clear = λ x y i j.
           let w = pieces-of x fs i in
           let u = pieces-of y fs j in

@@ -9,7 +9,7 @@ use Rattle.laws.specs.Scan.{indexOf}
 use Rattle.laws.proofs.Elements.{by-test}
 use Rattle.collector.specs.declared.Collector.{Collector}
 use Rattle.collector.specs.declared.Piece.{Piece}
-use Rattle.collector.specs.Places.{isPair, against, taken}
+use Rattle.collector.specs.Places.{isPair, against, takenFor}
 use Rattle.collector.specs.Collector.{isFree, indexOfPair, indexOfFree, itsPlace, takenIn, kept}
 use Rattle.collector.proofs.AllPlaces.{all-held, some-free, is-held, is-not-held, take-held, take-against, take-free, take-full}
 use Rattle.collector.proofs.OnePlace.{other-total}
@@ -24,7 +24,7 @@ atFree c = indexOf isFree (c .places)
 pub data Outcome (c : Collector) (x : Piece) : Type 0 where
   turned : (a : ℕ) → atPair c x < length (c .places) → a ≡ against (itsPlace c x) x → (a ≡ 0 → ⊥) → record { answer = a; collector = c } ≡ takenIn c x → Outcome c x
   joins : atPair c x < length (c .places) → against (itsPlace c x) x ≡ 0 → kept c (atPair c x) (itsPlace c x) x ≡ takenIn c x → Outcome c x
-  starts : length (c .places) ≤ atPair c x → atFree c < length (c .places) → kept c (atFree c) (taken x) x ≡ takenIn c x → Outcome c x
+  starts : length (c .places) ≤ atPair c x → atFree c < length (c .places) → kept c (atFree c) (takenFor x) x ≡ takenIn c x → Outcome c x
   finds-none : length (c .places) ≤ atPair c x → length (c .places) ≤ atFree c → record { answer = 16; collector = c } ≡ takenIn c x → Outcome c x
 
 pub outcome : (c : Collector) (x : Piece) → Outcome c x

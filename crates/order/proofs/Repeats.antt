@@ -3,29 +3,25 @@ use mathlib.Core.Path.{_≡_, refl, sym, ap, subst, _∙_}
 use mathlib.Core.List.{List, [], _∷_, _++_, List·Memᴰ, List·Memᴰ·head, List·Memᴰ·tail, List·Memᴰ·not-nil, List·Memᴰ·cases-cons}
 use mathlib.Core.Logic.{_↔_, ⊎-elim}
 use mathlib.Core.Bool.{Bool, true, _||_, false≢true, true≢false, or-true}
-use Prim.Native.Nat.{ℕ, _<_}
+use Prim.Native.Nat.{ℕ}
 use native.Mathlib.Omega.{arith}
 use lib.ListN.{getD}
 use lib.Dec.{eqb}
 use borrow.Author.Tests.{eqb-true, eq-eqb}
-use Rattle.laws.specs.Refusals.{first, among as numbered}
+use Rattle.laws.specs.Refusals.{first, among}
 use Rattle.laws.proofs.Cases.{if-yes, if-no, and-yes, and-left, and-right, or-yes, or-no}
 use Rattle.laws.proofs.Elements.{by-test, first-append}
 use Rattle.laws.proofs.Refusals.{listed, stop, pass}
-use Rattle.frame.specs.Heading.{refusals, fieldsOf, accepted}
+use Rattle.frame.specs.Heading.{refusals, headingFields, accepted}
 use Rattle.frame.proofs.Accepted.{none-refused, some-refused, refused-with}
 use Rattle.frame.proofs.Alike.{made, remade}
 use Rattle.collector.specs.declared.Piece.{Piece}
 use Rattle.collector.specs.Collector.{nothing, pieceOf, offered}
 use Rattle.order.specs.Held.{offerAll}
-use Rattle.order.specs.Given.{pieces, ofPair, ofNumber, sameBytes, same, came, Pair, Bounded, declareCases, givenWith, dueCases, due}
+use Rattle.order.specs.Given.{pieces, ofPair, ofNumber, sameBytes, same, came, Pair, Bounded, Bytes, declareCases, givenWith, dueCases, due}
 use Rattle.order.proofs.Running.{mem-left, mem-right}
 use Rattle.order.proofs.Offering.{accepted-none, refused-some, pieces-of, of-pieces}
 use Rattle.order.proofs.Theorems.{answers}
-
--- each element of a frame is a byte
-abbrev pub Bytes : List ℕ → Type 0
-Bytes f = (i : ℕ) → getD f i 0 < 256
 
 -- two accepted frames of bytes that say the same are the same
 module _ (f g : List ℕ) (bf : Bytes f) (bg : Bytes g) (af : accepted f ≡ true) (ag : accepted g ≡ true) where
@@ -40,15 +36,15 @@ module _ (f g : List ℕ) (bf : Bytes f) (bg : Bytes g) (af : accepted f ≡ tru
       let b = and-right (eqb (x .heading .total .0) (y .heading .total .0)) (sameBytes x y) r in
       let b₁ = and-right (eqb (x .a) (y .a)) _ b in
       let b₂ = and-right (eqb (x .b) (y .b)) _ b₁ in
-      let el : fieldsOf f .level ≡ fieldsOf g .level = eqb-true _ _ (and-left (eqb (x .heading .level) (y .heading .level)) (eqb (x .heading .version) (y .heading .version)) p) in
-      let ev : fieldsOf f .version ≡ fieldsOf g .version = eqb-true _ _ (and-right (eqb (x .heading .level) (y .heading .level)) (eqb (x .heading .version) (y .heading .version)) p) in
-      let et : fieldsOf f .total .0 ≡ fieldsOf g .total .0 = eqb-true _ _ (and-left (eqb (x .heading .total .0) (y .heading .total .0)) (sameBytes x y) r) in
-      let en : fieldsOf f .number .0 ≡ fieldsOf g .number .0 = eqb-true _ _ (and-right (ofPair (y .heading .level) (y .heading .version) x) (eqb (x .heading .number .0) (y .heading .number .0)) k) in
+      let el : headingFields f .level ≡ headingFields g .level = eqb-true _ _ (and-left (eqb (x .heading .level) (y .heading .level)) (eqb (x .heading .version) (y .heading .version)) p) in
+      let ev : headingFields f .version ≡ headingFields g .version = eqb-true _ _ (and-right (eqb (x .heading .level) (y .heading .level)) (eqb (x .heading .version) (y .heading .version)) p) in
+      let et : headingFields f .total .0 ≡ headingFields g .total .0 = eqb-true _ _ (and-left (eqb (x .heading .total .0) (y .heading .total .0)) (sameBytes x y) r) in
+      let en : headingFields f .number .0 ≡ headingFields g .number .0 = eqb-true _ _ (and-right (ofPair (y .heading .level) (y .heading .version) x) (eqb (x .heading .number .0) (y .heading .number .0)) k) in
       let ea : getD f 4 0 ≡ getD g 4 0 = eqb-true _ _ (and-left (eqb (x .a) (y .a)) _ b) in
       let eb : getD f 5 0 ≡ getD g 5 0 = eqb-true _ _ (and-left (eqb (x .b) (y .b)) _ b₁) in
       let ec : getD f 6 0 ≡ getD g 6 0 = eqb-true _ _ (and-left (eqb (x .c) (y .c)) (eqb (x .d) (y .d)) b₂) in
       let ed : getD f 7 0 ≡ getD g 7 0 = eqb-true _ _ (and-right (eqb (x .c) (y .c)) (eqb (x .d) (y .d)) b₂) in
-      let m : made (fieldsOf f) (getD f 4 0) (getD f 5 0) (getD f 6 0) (getD f 7 0) ≡ made (fieldsOf g) (getD g 4 0) (getD g 5 0) (getD g 6 0) (getD g 7 0) =
+      let m : made (headingFields f) (getD f 4 0) (getD f 5 0) (getD f 6 0) (getD f 7 0) ≡ made (headingFields g) (getD g 4 0) (getD g 5 0) (getD g 6 0) (getD g 7 0) =
       rw (el, ev, et, en, ea, eb, ec, ed) in
       remade f bf (accepted-none f af)
       ∙ m
@@ -83,7 +79,7 @@ came-in (x ∷ ps) y m =
 
 -- 2 is due exactly for what came before
 due-two : (ps : List Piece) (y : Piece) → (first (dueCases ps y) ≡ 2) ↔ (came ps y ≡ true)
-unfolding dueCases declareCases numbered
+unfolding dueCases declareCases among
 due-two ps y = (
   λ e.
       by-test (came ps y) (λ t. t)
@@ -91,7 +87,7 @@ due-two ps y = (
       let w : first (declareCases (y .heading .total) (givenWith ps y)) ≡ 2 = sym (pass 2 _ t) ∙ e in
       ⊎-elim
       (λ (z : first (declareCases (y .heading .total) (givenWith ps y)) ≡ 0). let q : 2 ≡ 0 = sym w ∙ z in absurd (omega arith))
-      (λ z. absurd (true≢false (sym (ap (λ (k : ℕ). numbered k (declareCases (y .heading .total) (givenWith ps y))) (sym w) ∙ z) ∙ refl)))
+      (λ z. absurd (true≢false (sym (ap (λ (k : ℕ). among k (declareCases (y .heading .total) (givenWith ps y))) (sym w) ∙ z) ∙ refl)))
       (listed (declareCases (y .heading .total) (givenWith ps y)))),
   λ t. stop 2 _ t,
 )

@@ -12,10 +12,10 @@ use Rattle.laws.proofs.Cases.{if-yes, if-no, and-yes, and-left, and-right, or-y
 use Rattle.laws.proofs.Elements.{by-test, index-yes, index-no, all-cons, all-head, all-tail, all-both}
 use Rattle.collector.specs.declared.Place.{Place}
 use Rattle.collector.specs.declared.Collector.{Collector}
-use Rattle.collector.specs.Places.{isPair, samePair, apart}
+use Rattle.collector.specs.Places.{isPair, samePair, pairsApart}
 use Rattle.collector.specs.Collector.{isFree, good}
 use Rattle.order.proofs.Keeping.{eqb-sym, good-apart, good-tail}
-use Rattle.order.specs.Given.{Pair, samePair as pairIs, among}
+use Rattle.order.specs.Given.{Pair, pairIs, pairAmong}
 
 -- the list without the first of that pair
 without : ℕ → ℕ → List Pair → List Pair
@@ -23,26 +23,26 @@ without l v [] = []
 without l v (a ∷ qs) = cond (pairIs l v a) qs (a ∷ without l v qs)
 
 module _ (l v : ℕ) where
-  without-length : (qs : List Pair) → among l v qs ≡ true → length qs ≡ suc (length (without l v qs))
-  unfolding among without
+  without-length : (qs : List Pair) → pairAmong l v qs ≡ true → length qs ≡ suc (length (without l v qs))
+  unfolding pairAmong without
   without-length [] e = absurd (false≢true e)
   without-length (a ∷ qs) e =
       by-test (pairIs l v a)
       (λ t. sym (ap (λ (w : List Pair). suc (length w)) (if-yes qs (a ∷ without l v qs) t)))
       (λ t.
-      ap suc (without-length qs (sym (or-no (among l v qs) t) ∙ e))
+      ap suc (without-length qs (sym (or-no (pairAmong l v qs) t) ∙ e))
       ∙ sym (ap (λ (w : List Pair). suc (length w)) (if-no qs (a ∷ without l v qs) t)))
 
-  among-yes : (a : Pair) (qs : List Pair) → pairIs l v a ≡ true → among l v (a ∷ qs) ≡ true
-  unfolding among
-  among-yes a qs t = or-yes (among l v qs) t
+  among-yes : (a : Pair) (qs : List Pair) → pairIs l v a ≡ true → pairAmong l v (a ∷ qs) ≡ true
+  unfolding pairAmong
+  among-yes a qs t = or-yes (pairAmong l v qs) t
 
-  among-no : (a : Pair) (qs : List Pair) → pairIs l v a ≡ false → among l v (a ∷ qs) ≡ among l v qs
-  unfolding among
-  among-no a qs t = or-no (among l v qs) t
+  among-no : (a : Pair) (qs : List Pair) → pairIs l v a ≡ false → pairAmong l v (a ∷ qs) ≡ pairAmong l v qs
+  unfolding pairAmong
+  among-no a qs t = or-no (pairAmong l v qs) t
 
   -- another pair stays
-  without-other : (k w : ℕ) (qs : List Pair) → (eqb l k && eqb v w) ≡ false → among l v qs ≡ true → among l v (without k w qs) ≡ true
+  without-other : (k w : ℕ) (qs : List Pair) → (eqb l k && eqb v w) ≡ false → pairAmong l v qs ≡ true → pairAmong l v (without k w qs) ≡ true
   unfolding without
   without-other k w [] ne e = e
   without-other k w (a ∷ qs) ne e =
@@ -62,18 +62,18 @@ module _ (l v : ℕ) where
 
 -- each place is held, for a pair of the list
 abbrev heldAmong : List Pair → Place → Bool
-heldAmong qs p = p .held && among (p .level) (p .version) qs
+heldAmong qs p = p .held && pairAmong (p .level) (p .version) qs
 
 -- where all places are held, for pairs of the list, and one more pair of the list is held by none, the list is longer
-pub crowded : (xs : List Place) (qs : List Pair) (l v : ℕ) → good xs ≡ true → all (heldAmong qs) xs ≡ true → length xs ≤ indexOf (isPair l v) xs → among l v qs ≡ true
+pub crowded : (xs : List Place) (qs : List Pair) (l v : ℕ) → good xs ≡ true → all (heldAmong qs) xs ≡ true → length xs ≤ indexOf (isPair l v) xs → pairAmong l v qs ≡ true
     → length xs < length qs
-unfolding among
+unfolding pairAmong
 crowded [] [] l v o e n m = absurd (false≢true m)
 crowded [] (q ∷ qs) l v o e n m = omega arith
 crowded (r ∷ rs) qs l v o e n m =
     let e₀ = all-head (heldAmong qs) r rs e in
-    let held : r .held ≡ true = and-left (r .held) (among (r .level) (r .version) qs) e₀ in
-    let in-list = and-right (r .held) (among (r .level) (r .version) qs) e₀ in
+    let held : r .held ≡ true = and-left (r .held) (pairAmong (r .level) (r .version) qs) e₀ in
+    let in-list = and-right (r .held) (pairAmong (r .level) (r .version) qs) e₀ in
     let shorter = without-length (r .level) (r .version) qs in-list in
     by-test (isPair l v r)
     (λ t. let w = index-yes (isPair l v) r rs t in absurd (omega arith))
@@ -83,17 +83,17 @@ crowded (r ∷ rs) qs l v o e n m =
     ap₂ _&&_ (eqb-sym l (r .level)) (eqb-sym v (r .version)) ∙ sym (and-yes (eqb (r .level) l && eqb (r .version) v) held) ∙ t
     in
     let rest : all (heldAmong (without (r .level) (r .version) qs)) rs ≡ true =
-    all-both (apart r) (heldAmong qs) (heldAmong (without (r .level) (r .version) qs)) rs
+    all-both (pairsApart r) (heldAmong qs) (heldAmong (without (r .level) (r .version) qs)) rs
     (λ p ap₀ hp. stays-among p ap₀ hp held)
     (good-apart r rs o) (all-tail (heldAmong qs) r rs e)
     in
     let ih = crowded rs (without (r .level) (r .version) qs) l v (good-tail r rs o) rest (omega arith) (without-other l v (r .level) (r .version) qs other m) in
     omega arith)
   where
-    stays-among : (p : Place) → apart r p ≡ true → heldAmong qs p ≡ true → r .held ≡ true → heldAmong (without (r .level) (r .version) qs) p ≡ true
+    stays-among : (p : Place) → pairsApart r p ≡ true → heldAmong qs p ≡ true → r .held ≡ true → heldAmong (without (r .level) (r .version) qs) p ≡ true
     stays-among p a hp held =
-        let ph : p .held ≡ true = and-left (p .held) (among (p .level) (p .version) qs) hp in
-        let pm = and-right (p .held) (among (p .level) (p .version) qs) hp in
+        let ph : p .held ≡ true = and-left (p .held) (pairAmong (p .level) (p .version) qs) hp in
+        let pm = and-right (p .held) (pairAmong (p .level) (p .version) qs) hp in
         let other : (eqb (p .level) (r .level) && eqb (p .version) (r .version)) ≡ false =
         sym (and-yes _ ph) ∙ sym (and-yes _ held) ∙ not-true (samePair r p) a
         in
@@ -101,7 +101,7 @@ crowded (r ∷ rs) qs l v o e n m =
 
 -- ---- a held place is of a pair of the list
 abbrev pub okAmong : List Pair → Place → Bool
-okAmong qs p = not (p .held) || among (p .level) (p .version) qs
+okAmong qs p = not (p .held) || pairAmong (p .level) (p .version) qs
 
 unfoldable pub Within : List Pair → Collector → Type 0
 Within qs c = all (okAmong qs) (c .places) ≡ true

@@ -20,9 +20,9 @@ use Rattle.frame.proofs.Accepted.{Bounds}
 use Rattle.collector.specs.declared.Collector.{Collector}
 use Rattle.collector.specs.declared.Piece.{Piece}
 use Rattle.collector.specs.Collector.{nothing, takenIn}
-use Rattle.order.specs.Held.{Four, heldPlace, holds, totalHeld, takeAll}
-use Rattle.order.specs.Given.{four, ofPair, ofNumber, same, came, Pair, among, firstOf, given, totalGiven, isSome, givenWith, declareCases, dueCases}
-use Rattle.order.proofs.Keeping.{Good, empty-good}
+use Rattle.order.specs.Held.{Good, Four, heldPlace, holds, totalHeld, takeAll}
+use Rattle.order.specs.Given.{four, ofPair, ofNumber, same, came, Pair, pairAmong, firstOf, given, totalGiven, isSome, givenWith, declareCases, dueCases}
+use Rattle.order.proofs.Keeping.{empty-good}
 use Rattle.order.proofs.Stepping.{Stepped, Agrees}
 use Rattle.order.proofs.Room.{Within}
 use Rattle.order.proofs.Declaring.{declare-alike}
@@ -61,7 +61,7 @@ pub record Ready (qs : List Pair) (c : Collector) (ps : List Piece) : Type 0 whe
   pub good : Good c
   pub within : Within qs c
   pub fits : (x : Piece) → List·Memᴰ x ps → Bounds (x .heading)
-  pub listed : (x : Piece) → List·Memᴰ x ps → among (x .heading .level) (x .heading .version) qs ≡ true
+  pub listed : (x : Piece) → List·Memᴰ x ps → pairAmong (x .heading .level) (x .heading .version) qs ≡ true
   pub clear : (x y : Piece) → List·Memᴰ x ps → List·Memᴰ y ps → Clear x y
   pub agrees : (x : Piece) → List·Memᴰ x ps → Agrees c x
 
@@ -177,7 +177,7 @@ empty-within qs = refl
 pub record Feed (qs : List Pair) (ps : List Piece) : Type 0 where
   pub few : length qs ≤ 4
   pub fits : (x : Piece) → List·Memᴰ x ps → Bounds (x .heading)
-  pub listed : (x : Piece) → List·Memᴰ x ps → among (x .heading .level) (x .heading .version) qs ≡ true
+  pub listed : (x : Piece) → List·Memᴰ x ps → pairAmong (x .heading .level) (x .heading .version) qs ≡ true
   pub clear : (x y : Piece) → List·Memᴰ x ps → List·Memᴰ y ps → Clear x y
 
 pub feed-ready : (qs : List Pair) (ps : List Piece) → Feed qs ps → Ready qs nothing ps

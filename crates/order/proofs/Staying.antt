@@ -17,22 +17,17 @@ use Rattle.frame.proofs.Accepted.{Bounds, bounds}
 use Rattle.collector.specs.declared.Collector.{Collector}
 use Rattle.collector.specs.declared.Piece.{Piece}
 use Rattle.collector.specs.declared.Offered.{Offered}
-use Rattle.collector.specs.Places.{blank, marked, sameFour, against, stored, taken}
+use Rattle.collector.specs.Places.{blank, marked, shaped, sameFour, against, stored, takenFor}
 use Rattle.collector.specs.Collector.{indexOfPair, itsPlace, put, pieceOf, takenIn, offered}
 use Rattle.collector.proofs.OnePlace.{same-frame, other-bytes}
-use Rattle.order.specs.Held.{Four, fourAt, holdsIn, totalIn, holds, totalHeld, offerAll}
-use Rattle.order.specs.Given.{ofPair, ofNumber}
+use Rattle.order.specs.Held.{Good, Stays, Four, fourAt, holdsIn, totalIn, holds, totalHeld, offerAll}
+use Rattle.order.specs.Given.{ofPair, ofNumber, Added}
 use Rattle.order.proofs.Outcome.{Outcome, turned, joins, starts, finds-none, outcome, atPair, atFree, total-agrees}
 use Rattle.order.proofs.HeldPlace.{held-place-found, held-place-missing}
-use Rattle.order.proofs.Keeping.{shaped, Good, kept-collector, offer-good}
+use Rattle.order.proofs.Keeping.{kept-collector, offer-good}
 use Rattle.order.proofs.Stepping.{Stepped, held-stepped, new-stepped}
 use Rattle.order.proofs.Running.{some-inj, none-some, number-parts}
 use Rattle.order.proofs.Offering.{offered-taken, offered-refused, accepted-none}
-
--- what the one holds the other holds too: the same four bytes for a pair's number, and the same total for a pair
-pub record Stays (c d : Collector) : Type 0 where
-  pub bytes : (l v : ℕ) (n : Number) (b : Four) → holds c l v n ≡ some b → holds d l v n ≡ some b
-  pub total : (l v : ℕ) (t : Total) → totalHeld c l v ≡ some t → totalHeld d l v ≡ some t
 
 stays-same : (c : Collector) → Stays c c
 stays-same c = record { bytes = λ l v n b e. e; total = λ l v t e. e }
@@ -62,6 +57,14 @@ stepped-stays c x d s new same = record { bytes = on-bytes; total = on-total }
         s .total l v ∙ if-yes _ _ k ∙ ap some (sym (same t (ap₂ (totalHeld c) el ev ∙ e))))
         (λ k. s .total l v ∙ if-no _ _ k ∙ e)
 
+added-stays : (c : Collector) (x : Piece) (d : Collector) → Added c x d → Stays c d
+added-stays c x d a = stepped-stays c x d (record { held = a .bytes; total = a .total }) (a .new) (a .agrees)
+
+stepped-added : (c : Collector) (x : Piece) (d : Collector) → Stepped c x d
+    → holds c (x .heading .level) (x .heading .version) (x .heading .number) ≡ none
+    → ((t : Total) → totalHeld c (x .heading .level) (x .heading .version) ≡ some t → t ≡ x .heading .total) → Added c x d
+stepped-added c x d s new same = record { new = new; agrees = same; bytes = s .held; total = s .total }
+
 module _ (c : Collector) (x : Piece) (g : Good c) (b : Bounds (x .heading)) where
   -- a place of the pair that nothing is against has not this number
   missing : against (itsPlace c x) x ≡ 0 → marked (itsPlace c x) (x .heading .number) ≡ false
@@ -74,27 +77,25 @@ module _ (c : Collector) (x : Piece) (g : Good c) (b : Bounds (x .heading)) wher
       (λ f. let z : 15 ≡ 0 = sym (other-bytes (itsPlace c x) x t m f) ∙ e in absurd (omega arith)))
       (λ m. m)
 
-  joins-stays : atPair c x < length (c .places) → against (itsPlace c x) x ≡ 0 → Stays c (put c (atPair c x) (stored (itsPlace c x) x))
+  pub joins-added : atPair c x < length (c .places) → against (itsPlace c x) x ≡ 0 → Added c x (put c (atPair c x) (stored (itsPlace c x) x))
   unfolding indexOfPair holds totalHeld fourAt
-  joins-stays h e =
+  joins-added h e =
       let p = itsPlace c x in
       let n = b .number-below in
       let u = b .total-high in
       let sh : shaped p ≡ true = all-at shaped (c .places) (atPair c x) blank (g .shape) h in
-      let lm : length (p .marks) ≡ 63 = eqb-true _ _ (and-left (eqb (length (p .marks)) 63) (eqb (length (p .bytes)) 252) sh) in
-      let lb : length (p .bytes) ≡ 252 = eqb-true _ _ (and-right (eqb (length (p .marks)) 63) (eqb (length (p .bytes)) 252) sh) in
       let found = held-place-found (x .heading .level) (x .heading .version) (c .places) h in
-      stepped-stays c x (put c (atPair c x) (stored p x)) (held-stepped c x h (omega arith) (omega arith) (total-agrees c x e))
+      stepped-added c x (put c (atPair c x) (stored p x)) (held-stepped c x h sh (omega arith) (total-agrees c x e))
       (ap (λ (o : Option _). holdsIn o (x .heading .number)) found ∙ if-no _ none (missing e))
       (λ t k. some-inj (sym k ∙ ap totalIn found) ∙ ap (λ (m : ℕ). record { 0 = m }) (total-agrees c x e))
 
-  starts-stays : length (c .places) ≤ atPair c x → atFree c < length (c .places) → Stays c (put c (atFree c) (stored (taken x) x))
+  pub starts-added : length (c .places) ≤ atPair c x → atFree c < length (c .places) → Added c x (put c (atFree c) (stored (takenFor x) x))
   unfolding indexOfPair holds totalHeld
-  starts-stays none-held h =
+  starts-added none-held h =
       let n = b .number-below in
       let u = b .total-high in
       let lost = held-place-missing (x .heading .level) (x .heading .version) (c .places) none-held in
-      stepped-stays c x (put c (atFree c) (stored (taken x) x)) (new-stepped c x none-held h (omega arith))
+      stepped-added c x (put c (atFree c) (stored (takenFor x) x)) (new-stepped c x none-held h (omega arith))
       (ap (λ (o : Option _). holdsIn o (x .heading .number)) lost)
       (λ t k. absurd (none-some (sym (ap totalIn lost) ∙ k)))
 
@@ -103,8 +104,8 @@ module _ (c : Collector) (x : Piece) (g : Good c) (b : Bounds (x .heading)) wher
     where
       by-outcome : Outcome c x → Stays c (takenIn c x .collector)
       by-outcome (turned k h e n o) = subst (Stays c) (ap (λ (r : Offered). r .collector) o) (stays-same c)
-      by-outcome (joins h e o) = subst (Stays c) (sym (kept-collector c (atPair c x) (itsPlace c x) x) ∙ ap (λ (r : Offered). r .collector) o) (joins-stays h e)
-      by-outcome (starts h k o) = subst (Stays c) (sym (kept-collector c (atFree c) (taken x) x) ∙ ap (λ (r : Offered). r .collector) o) (starts-stays h k)
+      by-outcome (joins h e o) = subst (Stays c) (sym (kept-collector c (atPair c x) (itsPlace c x) x) ∙ ap (λ (r : Offered). r .collector) o) (added-stays c x _ (joins-added h e))
+      by-outcome (starts h k o) = subst (Stays c) (sym (kept-collector c (atFree c) (takenFor x) x) ∙ ap (λ (r : Offered). r .collector) o) (added-stays c x _ (starts-added h k))
       by-outcome (finds-none h k o) = subst (Stays c) (ap (λ (r : Offered). r .collector) o) (stays-same c)
 
 -- Whatever frame is offered, every total and every four bytes that were held are held still.

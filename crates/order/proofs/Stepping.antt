@@ -2,11 +2,10 @@
 use mathlib.Core.Path.{_≡_, refl, sym, ap, ap₂, _∙_}
 use mathlib.Core.Option.{Option, none, some}
 use mathlib.Core.Bool.{Bool, true, false, cond, _&&_, and-false}
-use Prim.Native.Nat.{ℕ, _+_, _*_, _≤_, _<_}
-use native.Mathlib.Omega.{arith}
-use lib.ListN.{length, getD, set, replicate, length-replicate, getD-replicate, List·getD-eq-default}
-use lib.Dec.{ltb, eqb}
-use borrow.Author.Tests.{not-true, ltb-true, ltb-false, eqb-true, eqb-false, eq-eqb}
+use Prim.Native.Nat.{ℕ, _≤_, _<_}
+use lib.ListN.{length, getD, set}
+use lib.Dec.{eqb}
+use borrow.Author.Tests.{not-true, eqb-true, eqb-false, eq-eqb}
 use Rattle.laws.proofs.Cases.{if-yes, if-no, and-yes, and-no, and-left, and-right}
 use Rattle.laws.proofs.Elements.{by-test, index-holds}
 use Rattle.frame.specs.declared.Total.{Total}
@@ -14,7 +13,8 @@ use Rattle.frame.specs.declared.Number.{Number}
 use Rattle.collector.specs.declared.Place.{Place}
 use Rattle.collector.specs.declared.Collector.{Collector}
 use Rattle.collector.specs.declared.Piece.{Piece}
-use Rattle.collector.specs.Places.{blank, isPair, stored, taken}
+use Rattle.collector.specs.Places.{blank, isPair, shaped, stored, takenFor}
+use Rattle.collector.proofs.Marks.{taken-shaped, mark-none}
 use Rattle.collector.specs.Collector.{isFree, indexOfPair, itsPlace, put}
 use Rattle.order.specs.Held.{Four, fourAt, heldPlace, holdsIn, totalIn, holds, totalHeld}
 use Rattle.order.specs.Given.{four, ofPair, ofNumber}
@@ -84,7 +84,7 @@ unfolding stored
 stored-total p x = refl
 
 -- what a place holds after the store, number by number
-stored-fours : (p : Place) (x : Piece) (h : Number → Option Four) → x .heading .number .0 < length (p .marks) → x .heading .number .0 * 4 + 3 < length (p .bytes)
+stored-fours : (p : Place) (x : Piece) (h : Number → Option Four) → shaped p ≡ true → x .heading .number .0 < 63
     → ((m : Number) → (m .0 ≡ x .heading .number .0 → ⊥) → fourAt p m ≡ h m) → (m : Number) → fourAt (stored p x) m ≡ cond (eqb (x .heading .number .0) (m .0)) (some (four x)) (h m)
 stored-fours p x h a b w m =
     by-test (eqb (x .heading .number .0) (m .0))
@@ -95,7 +95,7 @@ stored-fours p x h a b w m =
     four-other p x m ne ∙ w m ne ∙ sym (if-no (some (four x)) (h m) e))
 
 module _ (c : Collector) (x : Piece) where
-  pub held-stepped : (atPair c x) < length (c .places) → x .heading .number .0 < length ((itsPlace c x) .marks) → x .heading .number .0 * 4 + 3 < length ((itsPlace c x) .bytes)
+  pub held-stepped : (atPair c x) < length (c .places) → shaped (itsPlace c x) ≡ true → x .heading .number .0 < 63
       → (itsPlace c x) .total .0 ≡ x .heading .total .0 → Stepped c x (put c (atPair c x) (stored (itsPlace c x) x))
   unfolding holds indexOfPair
   held-stepped h a b t =
@@ -110,47 +110,33 @@ module _ (c : Collector) (x : Piece) where
       (λ m ne. ap (λ (o : Option Place). holdsIn o m) (sym (held-place-found (x .heading .level) (x .heading .version) (c .places) h))))
 
   -- ---- the pair is not held
-  new-pair : (l v : ℕ) → isPair l v (stored (taken x) x) ≡ ofPair l v x
-  unfolding stored taken
+  new-pair : (l v : ℕ) → isPair l v (stored (takenFor x) x) ≡ ofPair l v x
+  unfolding stored takenFor
   new-pair l v = refl
 
-  taken-none : (m : Number) → fourAt (taken x) m ≡ none
-  unfolding fourAt taken
-  taken-none m = if-no _ _ (unset (m .0))
-    where
-      unset : (m : ℕ) → getD (replicate 63 false) m false ≡ false
-      unset m =
-          by-test (ltb m 63)
-          (λ e. getD-replicate 63 m false false (ltb-true m 63 e))
-          (λ e. List·getD-eq-default (replicate 63 false) false {n = m} (omega (arith, ltb-false m 63 e)))
+  taken-none : (m : Number) → fourAt (takenFor x) m ≡ none
+  unfolding fourAt
+  taken-none m = if-no _ _ (mark-none x m)
 
-  pub new-total : (stored (taken x) x) .total ≡ x .heading .total
-  unfolding stored taken
+  pub new-total : (stored (takenFor x) x) .total ≡ x .heading .total
+  unfolding stored takenFor
   new-total = refl
 
-  pub taken-marks : length (taken x .marks) ≡ 63
-  unfolding taken
-  taken-marks = length-replicate 63 false
-
-  pub taken-bytes : length (taken x .bytes) ≡ 252
-  unfolding taken
-  taken-bytes = length-replicate {A = ℕ} 252 0
-
-  pub new-own : isPair (x .heading .level) (x .heading .version) (stored (taken x) x) ≡ true
+  pub new-own : isPair (x .heading .level) (x .heading .version) (stored (takenFor x) x) ≡ true
   new-own =
       new-pair (x .heading .level) (x .heading .version)
       ∙ and-yes (eqb (x .heading .version) (x .heading .version)) (eq-eqb (x .heading .level) (x .heading .level) refl)
       ∙ eq-eqb (x .heading .version) (x .heading .version) refl
 
-  pub new-stepped : length (c .places) ≤ (atPair c x) → (atFree c) < length (c .places) → x .heading .number .0 < 63 → Stepped c x (put c (atFree c) (stored (taken x) x))
+  pub new-stepped : length (c .places) ≤ (atPair c x) → (atFree c) < length (c .places) → x .heading .number .0 < 63 → Stepped c x (put c (atFree c) (stored (takenFor x) x))
   unfolding holds
   new-stepped none-held h n =
       let open-place : (getD (c .places) (atFree c) blank) .held ≡ false = not-true _ (index-holds isFree (c .places) blank (atFree c) refl h) in
-      put-stepped c x (atFree c) (stored (taken x) x)
-      (held-place-new (x .heading .level) (x .heading .version) (c .places) (atFree c) (stored (taken x) x) none-held h new-own)
-      (λ l v k. held-place-miss l v (c .places) (atFree c) (stored (taken x) x) h (and-no _ open-place) (new-pair l v ∙ k))
+      put-stepped c x (atFree c) (stored (takenFor x) x)
+      (held-place-new (x .heading .level) (x .heading .version) (c .places) (atFree c) (stored (takenFor x) x) none-held h new-own)
+      (λ l v k. held-place-miss l v (c .places) (atFree c) (stored (takenFor x) x) h (and-no _ open-place) (new-pair l v ∙ k))
       new-total
-      (stored-fours (taken x) x (holds c (x .heading .level) (x .heading .version)) (omega (arith, taken-marks)) (omega (arith, taken-bytes))
+      (stored-fours (takenFor x) x (holds c (x .heading .level) (x .heading .version)) (taken-shaped x) n
       (λ m ne. taken-none m ∙ ap (λ (o : Option Place). holdsIn o m) (sym (held-place-missing (x .heading .level) (x .heading .version) (c .places) none-held))))
 
 -- ---- what was held agrees with the piece

@@ -6,11 +6,11 @@ use mathlib.Core.Bool.{true, false, cond}
 use Prim.Native.Nat.{ℕ, _≤_, _<_}
 use native.Mathlib.Omega.{arith}
 use lib.ListN.{length, set}
-use lib.Dec.{ltb, eqb}
-use borrow.Author.Tests.{ltb-true, ltb-false, eqb-true, eq-eqb}
+use lib.Dec.{ltb}
+use borrow.Author.Tests.{ltb-true, ltb-false, eq-eqb}
 use Rattle.laws.specs.Scan.{indexOf}
 use Rattle.laws.specs.Refusals.{first}
-use Rattle.laws.proofs.Cases.{if-yes, if-no, and-yes, and-left, and-right}
+use Rattle.laws.proofs.Cases.{if-yes, if-no, and-yes}
 use Rattle.laws.proofs.Elements.{by-test, all-at, all-set, index-holds}
 use Rattle.frame.specs.declared.Total.{Total}
 use Rattle.frame.specs.declared.Number.{Number}
@@ -19,14 +19,15 @@ use Rattle.collector.specs.declared.Place.{Place}
 use Rattle.collector.specs.declared.Collector.{Collector}
 use Rattle.collector.specs.declared.Piece.{Piece}
 use Rattle.collector.specs.declared.Offered.{Offered}
-use Rattle.collector.specs.Places.{blank, isPair, marked, sameFour, against, stored, taken, state}
+use Rattle.collector.specs.Places.{blank, isPair, marked, shaped, sameFour, against, stored, takenFor, state}
 use Rattle.collector.specs.Collector.{isFree, indexOfPair, itsPlace, put, takenIn, kept}
 use Rattle.collector.proofs.OnePlace.{new-number, same-frame}
-use Rattle.order.specs.Held.{Four, bytesAt, fourAt, heldPlace, holdsIn, totalIn, holds, totalHeld}
-use Rattle.order.specs.Given.{four, Pair, among, isSome, declareCases}
+use Rattle.collector.proofs.Marks.{stored-shaped, taken-shaped}
+use Rattle.order.specs.Held.{Good, Four, bytesAt, fourAt, heldPlace, holdsIn, totalIn, holds, totalHeld}
+use Rattle.order.specs.Given.{four, Pair, pairAmong, isSome, declareCases}
 use Rattle.order.proofs.Outcome.{Outcome, turned, joins, starts, finds-none, outcome, atPair, atFree, total-agrees}
 use Rattle.order.proofs.HeldPlace.{held-place-found, held-place-missing, held-place-hit, held-place-new}
-use Rattle.order.proofs.Keeping.{shaped, Good, kept-collector, joined-good, started-good, stored-shaped, taken-shaped}
+use Rattle.order.proofs.Keeping.{kept-collector, joined-good, started-good}
 use Rattle.order.proofs.Stepping.{Stepped, Agrees, again-stepped, held-stepped, new-stepped, stored-pair, stored-total, new-own, new-total}
 use Rattle.order.proofs.Room.{Within, okAmong, crowded, all-held-among}
 use Rattle.order.proofs.Declaring.{marked-four, four-marked, declare-alike, state-declared}
@@ -55,9 +56,9 @@ held-within : (qs : List Pair) (c : Collector) (x : Piece) → Within qs c → a
 unfolding Within stored indexOfPair
 held-within qs c x w h = all-set (okAmong qs) (c .places) (atPair c x) (stored (itsPlace c x) x) w (all-at (okAmong qs) (c .places) (atPair c x) blank w h)
 
-new-within : (qs : List Pair) (c : Collector) (x : Piece) → Within qs c → among (x .heading .level) (x .heading .version) qs ≡ true → Within qs (put c (atFree c) (stored (taken x) x))
-unfolding Within stored taken
-new-within qs c x w m = all-set (okAmong qs) (c .places) (atFree c) (stored (taken x) x) w m
+new-within : (qs : List Pair) (c : Collector) (x : Piece) → Within qs c → pairAmong (x .heading .level) (x .heading .version) qs ≡ true → Within qs (put c (atFree c) (stored (takenFor x) x))
+unfolding Within stored takenFor
+new-within qs c x w m = all-set (okAmong qs) (c .places) (atFree c) (stored (takenFor x) x) w m
 
 -- what is held for a pair whose place was just put
 seen : (c : Collector) (l v : ℕ) (q : Place) (i : ℕ) → heldPlace l v (set (c .places) i q) ≡ some q → (k : Number) → holds (put c i q) l v k ≡ fourAt q k
@@ -65,7 +66,7 @@ unfolding holds
 seen c l v q i e k = ap (λ (o : Option Place). holdsIn o k) e
 
 module _ (qs : List Pair) (few : length qs ≤ 4) (c : Collector) (x : Piece) (g : Good c) (w : Within qs c)
-    (m : among (x .heading .level) (x .heading .version) qs ≡ true) (b : Bounds (x .heading)) (a : Agrees c x) where
+    (m : pairAmong (x .heading .level) (x .heading .version) qs ≡ true) (b : Bounds (x .heading)) (a : Agrees c x) where
   abbrev l : ℕ
   l = x .heading .level
 
@@ -123,8 +124,6 @@ module _ (qs : List Pair) (few : length qs ≤ 4) (c : Collector) (x : Piece) (g
         let n = b .number-below in
         let u = b .total-high in
         let sh : shaped p ≡ true = all-at shaped (c .places) (atPair c x) blank (g .shape) h in
-        let lm : length (p .marks) ≡ 63 = eqb-true _ _ (and-left (eqb (length (p .marks)) 63) (eqb (length (p .bytes)) 252) sh) in
-        let lb : length (p .bytes) ≡ 252 = eqb-true _ _ (and-right (eqb (length (p .marks)) 63) (eqb (length (p .bytes)) 252) sh) in
         let missing : marked p (x .heading .number) ≡ false =
         by-test (marked p (x .heading .number)) (λ y. let z : 2 ≡ 0 = sym (was-there y .1) ∙ e in absurd (omega arith)) (λ y. y) in
         let mine : isPair l v p ≡ true = index-holds (isPair l v) (c .places) blank (atPair c x) refl h in
@@ -132,7 +131,7 @@ module _ (qs : List Pair) (few : length qs ≤ 4) (c : Collector) (x : Piece) (g
         let qt : q .total ≡ x .heading .total = stored-total p x ∙ its-total in
         record {
           good = subst Good d (joined-good c x g b h t);
-          stepped = subst (Stepped c x) d (held-stepped c x h (omega arith) (omega arith) t);
+          stepped = subst (Stepped c x) d (held-stepped c x h sh (omega arith) t);
           within = subst (Within qs) d (held-within qs c x w h);
           answer =
               sym (ap (λ (r : Offered). r .answer) o)
@@ -159,10 +158,10 @@ module _ (qs : List Pair) (few : length qs ≤ 4) (c : Collector) (x : Piece) (g
     unfolding holds
     holds-none n = ap (λ (o : Option Place). holdsIn o n) (held-place-missing l v (c .places) none-held)
 
-    starts-took : atFree c < length (c .places) → kept c (atFree c) (taken x) x ≡ takenIn c x → Took qs c x
+    starts-took : atFree c < length (c .places) → kept c (atFree c) (takenFor x) x ≡ takenIn c x → Took qs c x
     starts-took h o =
-        let q = stored (taken x) x in
-        let d : put c (atFree c) q ≡ takenIn c x .collector = sym (kept-collector c (atFree c) (taken x) x) ∙ ap (λ (r : Offered). r .collector) o in
+        let q = stored (takenFor x) x in
+        let d : put c (atFree c) q ≡ takenIn c x .collector = sym (kept-collector c (atFree c) (takenFor x) x) ∙ ap (λ (r : Offered). r .collector) o in
         let n = b .number-below in
         let u = b .total-high in
         let hit = held-place-new l v (c .places) (atFree c) q none-held h (new-own c x) in
@@ -173,8 +172,8 @@ module _ (qs : List Pair) (few : length qs ≤ 4) (c : Collector) (x : Piece) (g
           within = subst (Within qs) d (new-within qs c x w m);
           answer =
               sym (ap (λ (r : Offered). r .answer) o)
-              ∙ kept-answer c (atFree c) (taken x) x
-              ∙ state-declared q (stored-shaped (taken x) x ∙ taken-shaped x) (subst (λ (k : Total). k .0 ≤ 63) (sym qt) u)
+              ∙ kept-answer c (atFree c) (takenFor x) x
+              ∙ state-declared q (stored-shaped (takenFor x) x ∙ taken-shaped x) (subst (λ (k : Total). k .0 ≤ 63) (sym qt) u)
               ∙ ap (λ (k : Total). first (declareCases k (fourAt q))) qt
               ∙ ap first (declare-alike (x .heading .total) (fourAt q) (holds (takenIn c x .collector) l v) (λ k. sym (seen c l v q (atFree c) hit k) ∙ ap (λ (r : Collector). holds r l v k) d))
               ∙ sym (if-no _ _ (ap isSome (holds-none (x .heading .number))));

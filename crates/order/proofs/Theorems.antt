@@ -3,19 +3,19 @@ use mathlib.Core.Path.{_≡_, refl, sym, ap, ap₂, subst, _∙_}
 use mathlib.Core.List.{List, [], _∷_, _++_, List·Memᴰ, List·Memᴰ·head, List·Memᴰ·tail, List·Memᴰ·cases-cons, List·Memᴰ·not-nil}
 use mathlib.Core.Logic.{_↔_, ⊎-elim}
 use mathlib.Core.Option.{Option, none, some}
-use mathlib.Core.Bool.{Bool, true, false, not, true≢false}
+use mathlib.Core.Bool.{Bool, true, false, true≢false}
 use Prim.Native.Nat.{ℕ, zero, suc, _≤_, _<_}
 use native.Mathlib.Nat.{not-suc-le-zero, le-of-suc-le-suc}
 use native.Mathlib.Omega.{arith}
 use lib.ListN.{length, getD, set}
 use lib.Seq.{set-set}
 use lib.Dec.{eqb, ltb}
-use borrow.Author.Tests.{not-true, eqb-true, ne-eqb, ltb-true, ltb-false}
+use borrow.Author.Tests.{eqb-true, ne-eqb, ltb-true, ltb-false}
 use Rattle.laws.specs.Scan.{all, indexOf}
-use Rattle.laws.specs.Refusals.{Case, first, none as passed, apart, among as numbered}
+use Rattle.laws.specs.Refusals.{first, among}
 use Rattle.laws.proofs.Cases.{if-yes, if-no, and-left, and-right}
 use Rattle.laws.proofs.Elements.{by-test, first-append, index-yes, index-no}
-use Rattle.laws.proofs.Refusals.{exact, listed}
+use Rattle.laws.proofs.Refusals.{listed}
 use Rattle.frame.specs.declared.Total.{Total}
 use Rattle.frame.specs.declared.Number.{Number}
 use Rattle.frame.specs.Heading.{refusals, accepted}
@@ -24,13 +24,13 @@ use Rattle.collector.specs.declared.Place.{Place}
 use Rattle.collector.specs.declared.Collector.{Collector}
 use Rattle.collector.specs.declared.Piece.{Piece}
 use Rattle.collector.specs.declared.Offered.{Offered}
-use Rattle.collector.specs.Places.{blank, isPair, stored, taken, freed, copyAnswer, copyBytes}
+use Rattle.collector.specs.Places.{blank, isPair, stored, takenFor, freed, copyAnswer, copyBytes}
 use Rattle.collector.specs.Collector.{nothing, good, isFree, isHeld, indexOfPair, placeOf, itsPlace, put, pieceOf, takenIn, keeps, offerCases, offered, releaseCases, released, copiedCases, answered, copied}
-use Rattle.collector.proofs.Calls.{offer-apart, release-apart, copy-apart, release-0}
+use Rattle.collector.proofs.Calls.{bad-first, offer-apart, release-apart, copy-apart, release-0}
 use Rattle.collector.proofs.AllPlaces.{is-held, is-not-held, some-free}
-use Rattle.order.specs.Held.{Four, holds, totalHeld, offerAll, Act, offering, releasing, run}
-use Rattle.order.specs.Given.{pieces, four, ofPair, ofNumber, Pair, Bounded, Rearranged, firstOf, given, totalGiven, declareCases, dueCases, due}
-use Rattle.order.proofs.Keeping.{Good, kept-collector, empty-good, offer-good, release-good}
+use Rattle.order.specs.Held.{Good, Four, holds, totalHeld, offerAll, Act, offering, releasing, run}
+use Rattle.order.specs.Given.{pieces, four, ofPair, ofNumber, Pair, Bounded, Rearranged, firstOf, Said, given, totalGiven, declareCases, dueCases, due}
+use Rattle.order.proofs.Keeping.{kept-collector, empty-good, offer-good, release-good}
 use Rattle.order.proofs.Outcome.{Outcome, turned, joins, starts, finds-none, outcome, atPair, atFree}
 use Rattle.order.proofs.Running.{Feed, some-inj, none-some, held-given, total-given, answer-due, number-parts}
 use Rattle.order.proofs.Offering.{offered-taken, offered-refused, all-good, all-taken, pieces-yes, pieces-append, pieces-of, of-pieces, accepted-none, refused-some, feed, moved, back, bounded-among}
@@ -45,10 +45,6 @@ holdings qs fs r l v n =
     let e = all-taken fs nothing empty-good in
     let f = feed qs fs r in
     (ap (λ (c : Collector). holds c l v n) e ∙ held-given qs (pieces fs) f l v n, ap (λ (c : Collector). totalHeld c l v) e ∙ total-given qs (pieces fs) f l v)
-
--- a frame of the list with an accepted heading of this test says b
-abbrev pub Said : {B : Type 0} → (Piece → Bool) → (Piece → B) → List (List ℕ) → B → Type 0
-Said is val fs b = (f : List ℕ) × List·Memᴰ f fs × (accepted f ≡ true) × (is (pieceOf f) ≡ true) × (val (pieceOf f) ≡ b)
 
 module _ {B : Type 0} (is : Piece → Bool) (val : Piece → B) where
   found-in : (ps : List Piece) (b : B) → firstOf is val ps ≡ some b → (x : Piece) × List·Memᴰ x ps × (is x ≡ true) × (val x ≡ b)
@@ -133,18 +129,18 @@ answers qs before f rest r =
     ∙ sym (first-append (refusals f) (dueCases (pieces before) (pieceOf f)) ∙ if-no _ _ (some-refused f (refused-some f e))))
 
 -- a number that no case has is not due
-no-such : (before : List (List ℕ)) (f : List ℕ) (k : ℕ) → numbered k (refusals f ++ dueCases (pieces before) (pieceOf f)) ≡ false → (k ≡ 0 → ⊥) → due before f ≡ k → ⊥
+no-such : (before : List (List ℕ)) (f : List ℕ) (k : ℕ) → among k (refusals f ++ dueCases (pieces before) (pieceOf f)) ≡ false → (k ≡ 0 → ⊥) → due before f ≡ k → ⊥
 unfolding due
 no-such before f k n z e =
     ⊎-elim
     (λ (q : first (refusals f ++ dueCases (pieces before) (pieceOf f)) ≡ 0). z (sym e ∙ q))
-    (λ q. true≢false (sym (ap (λ (i : ℕ). numbered i (refusals f ++ dueCases (pieces before) (pieceOf f))) (sym e) ∙ q) ∙ n))
+    (λ q. true≢false (sym (ap (λ (i : ℕ). among i (refusals f ++ dueCases (pieces before) (pieceOf f))) (sym e) ∙ q) ∙ n))
     (listed (refusals f ++ dueCases (pieces before) (pieceOf f)))
 
 -- So 15, 16 and 28 never come.
 pub never-refused : (qs : List Pair) (before : List (List ℕ)) (f : List ℕ) (rest : List (List ℕ)) → Bounded qs (before ++ (f ∷ rest))
     → (offered (offerAll nothing before) f .answer ≡ 15 → ⊥) × (offered (offerAll nothing before) f .answer ≡ 16 → ⊥) × (offered (offerAll nothing before) f .answer ≡ 28 → ⊥)
-unfolding refusals dueCases declareCases numbered
+unfolding refusals dueCases declareCases among
 never-refused qs before f rest r =
     let e = answers qs before f rest r in (
       λ z. no-such before f 15 refl (λ (q : 15 ≡ 0). omega arith) (sym e ∙ z),
@@ -191,10 +187,6 @@ run-keeps-good (offering f ∷ acts) c g = run-keeps-good acts (offered c f .col
 run-keeps-good (releasing l v ∷ acts) c g = run-keeps-good acts (released c l v .collector) (release-good c l v g)
 
 -- ---- no number 28 from a good record
-bad-first : (g : Bool) (cs : List Case) → apart ((not g, 28) ∷ cs) ≡ true → (first ((not g, 28) ∷ cs) ≡ 28) ↔ (g ≡ false)
-unfolding passed
-bad-first g cs a = let w = exact ((not g, 28) ∷ cs) a 0 (omega arith) in (λ e. not-true g (w .0 e .0), λ e. w .1 (ap not e, refl))
-
 -- So 28 comes exactly from a record that is not good, that is, from one made elsewhere: for offer, release and copy alike.
 pub bad-record-alone : (c : Collector)
     → ((f : List ℕ) → (offered c f .answer ≡ 28) ↔ (good (c .places) ≡ false))
@@ -265,7 +257,7 @@ module _ (c : Collector) (g : Good c) (l v : ℕ) (held : placeOf l v (c .places
   -- Where all four places are held and a pair is released, the next accepted frame of a pair that is not held is kept in the place made free,
   -- which begins anew: zeroed, with no mark but the frame's.
   pub place-used-again : (f : List ℕ) → accepted f ≡ true → itsPlace (released c l v .collector) (pieceOf f) .held ≡ false
-      → offered (released c l v .collector) f .collector ≡ put c i (stored (taken (pieceOf f)) (pieceOf f))
+      → offered (released c l v .collector) f .collector ≡ put c i (stored (takenFor (pieceOf f)) (pieceOf f))
   place-used-again f e none-held = again (outcome d x)
     where
       x : Piece
@@ -287,12 +279,12 @@ module _ (c : Collector) (g : Good c) (l v : ℕ) (held : placeOf l v (c .places
       count : length (d .places) ≡ length (c .places)
       count = gd .count ∙ sym (g .count)
 
-      again : Outcome d x → offered d f .collector ≡ put c i (stored (taken x) x)
+      again : Outcome d x → offered d f .collector ≡ put c i (stored (takenFor x) x)
       again (turned a h q n w) = absurd (not-there h)
       again (joins h q w) = absurd (not-there h)
       again (finds-none h k w) = let t = there in absurd (omega (arith, free-there, count))
       again (starts h k w) =
           ap (λ (o : Offered). o .collector) (offered-taken d f gd e ∙ sym w)
-          ∙ kept-collector d (atFree d) (taken x) x
-          ∙ ap₂ (λ (r : Collector) (j : ℕ). put r j (stored (taken x) x)) emptied free-there
-          ∙ ap (λ (ps : List Place). record { places = ps }) (set-set (c .places) i (freed (getD (c .places) i blank)) (stored (taken x) x))
+          ∙ kept-collector d (atFree d) (takenFor x) x
+          ∙ ap₂ (λ (r : Collector) (j : ℕ). put r j (stored (takenFor x) x)) emptied free-there
+          ∙ ap (λ (ps : List Place). record { places = ps }) (set-set (c .places) i (freed (getD (c .places) i blank)) (stored (takenFor x) x))

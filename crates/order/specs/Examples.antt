@@ -7,10 +7,11 @@ use Rattle.laws.specs.Bits.{at, bitsOf, spread}
 use Rattle.laws.specs.Below.{below}
 use Rattle.laws.specs.Scan.{all, indexOf}
 use Rattle.laws.specs.Refusals.{first}
-use Rattle.crc.specs.Crc16.{timesByte, taken as takenIn, takenAll, crc16}
-use Rattle.frame.specs.Heading.{fixed, reserved, outside, refusals, fieldsOf, headingOf, accepted}
-use Rattle.collector.specs.Whole.{packetSize, sized, checked, filled, passes}
-use Rattle.collector.specs.Places.{marksBelow, complete, fair, contradicts, again, taken, stored, whole, spoiled, copyCases, copyBytes}
+use Rattle.crc.specs.Crc16.{timesByte, taken, takenAll, crc16}
+use Rattle.frame.specs.Heading.{fixed, reserved, outside, refusals, headingFields, headingOf, accepted}
+use Rattle.size.specs.Size.{packetSize}
+use Rattle.collector.specs.Whole.{sized, checked, filled, passes}
+use Rattle.collector.specs.Places.{astray, marksBelow, complete, fair, contradicts, again, takenFor, stored, whole, spoiled, copyCases, copyBytes}
 use Rattle.collector.specs.Collector.{nothing, good, indexOfPair, indexOfFree, spot, after, takeCases, keeps, offerCases, offered, copiedCases, copied}
 use Rattle.order.specs.Held.{offerAll}
 use Rattle.order.specs.Given.{pieces, firstOf, same, came, full, joinedTo, declareCases, dueCases, due}
@@ -29,24 +30,29 @@ third = frame 2 0xD1 0x24 0xFF 0xFF
 
 -- the last missing number makes the packet whole, whichever it is, and is due from the frames alone
 pub whole-last : offered (offerAll nothing (third ∷ zeroth ∷ third ∷ [])) second .answer ≡ 1
-unfolding all indexOf first at bitsOf spread reduce remainder timesByte takenIn takenAll crc16 fixed reserved outside refusals fieldsOf packetSize sized checked filled passes marksBelow complete fair contradicts again taken stored whole spoiled good indexOfPair indexOfFree spot after takeCases keeps offerCases offered offerAll
+unfolding all below indexOf first at bitsOf spread reduce remainder timesByte taken takenAll crc16 fixed reserved outside refusals headingFields packetSize sized checked filled passes astray marksBelow complete fair contradicts again takenFor stored whole spoiled good indexOfPair indexOfFree spot after takeCases keeps offerCases offered offerAll
 whole-last = refl
 
 pub due-last : due (third ∷ zeroth ∷ third ∷ []) second ≡ 1
-unfolding below first at bitsOf spread reduce remainder timesByte takenIn takenAll crc16 fixed reserved outside refusals fieldsOf headingOf accepted packetSize sized checked filled passes all pieces firstOf same came full joinedTo declareCases dueCases due
+unfolding below first at bitsOf spread reduce remainder timesByte taken takenAll crc16 fixed reserved outside refusals headingFields headingOf accepted packetSize sized checked filled passes all pieces firstOf same came full joinedTo declareCases dueCases due
 due-last = refl
 
 pub due-again : due (third ∷ zeroth ∷ third ∷ []) zeroth ≡ 2
-unfolding below first at bitsOf spread reduce remainder timesByte takenIn takenAll crc16 fixed reserved outside refusals fieldsOf headingOf accepted packetSize sized checked filled passes all pieces firstOf same came full joinedTo declareCases dueCases due
+unfolding below first at bitsOf spread reduce remainder timesByte taken takenAll crc16 fixed reserved outside refusals headingFields headingOf accepted packetSize sized checked filled passes all pieces firstOf same came full joinedTo declareCases dueCases due
 due-again = refl
 
 -- one byte of the fill is not 0xFF
 pub due-spoiled : due (frame 2 0xD1 0x24 0xFF 0xFE ∷ zeroth ∷ []) second ≡ 17
-unfolding below first at bitsOf spread reduce remainder timesByte takenIn takenAll crc16 fixed reserved outside refusals fieldsOf headingOf accepted packetSize sized checked filled passes all pieces firstOf same came full joinedTo declareCases dueCases due
+unfolding below first at bitsOf spread reduce remainder timesByte taken takenAll crc16 fixed reserved outside refusals headingFields headingOf accepted packetSize sized checked filled passes all pieces firstOf same came full joinedTo declareCases dueCases due
 due-spoiled = refl
+
+-- the same number with other bytes
+pub contradicted : offered (offerAll nothing (zeroth ∷ [])) (frame 0 0xA8 0x06 0x01 0x03) .answer ≡ 15
+unfolding all below indexOf first at bitsOf spread reduce remainder timesByte taken takenAll crc16 fixed reserved outside refusals headingFields packetSize sized checked filled passes astray marksBelow complete fair contradicts again takenFor stored whole spoiled good indexOfPair indexOfFree spot after takeCases keeps offerCases offered offerAll
+contradicted = refl
 
 -- the packet's eight bytes, and the rest of what was lent
 pub copied-out : copied (offerAll nothing (third ∷ zeroth ∷ second ∷ [])) 5 3 (7 ∷ 7 ∷ 7 ∷ 7 ∷ 7 ∷ 7 ∷ 7 ∷ 7 ∷ 9 ∷ [])
     ≡ 0xA8 ∷ 0x06 ∷ 0x01 ∷ 0x02 ∷ 0x03 ∷ 0x04 ∷ 0x05 ∷ 0x06 ∷ 9 ∷ []
-unfolding all indexOf first at bitsOf spread reduce remainder timesByte takenIn takenAll crc16 fixed reserved outside refusals fieldsOf packetSize sized checked filled passes marksBelow complete fair contradicts again taken stored whole spoiled good indexOfPair indexOfFree spot after takeCases keeps offerCases offered offerAll copyCases copyBytes copiedCases copied
+unfolding all below indexOf first at bitsOf spread reduce remainder timesByte taken takenAll crc16 fixed reserved outside refusals headingFields packetSize sized checked filled passes astray marksBelow complete fair contradicts again takenFor stored whole spoiled good indexOfPair indexOfFree spot after takeCases keeps offerCases offered offerAll copyCases copyBytes copiedCases copied
 copied-out = refl

@@ -3,8 +3,8 @@ use mathlib.Core.Bool.{Bool, true, false, cond, not, _&&_, _||_}
 use mathlib.Core.Path.{_≡_}
 use mathlib.Core.List.{List, [], _∷_, _++_, List·Memᴰ}
 use mathlib.Core.Option.{Option, none, some}
-use Prim.Native.Nat.{ℕ, zero, suc, _≤_}
-use lib.ListN.{length}
+use Prim.Native.Nat.{ℕ, zero, suc, _≤_, _<_}
+use lib.ListN.{length, getD}
 use lib.Dec.{eqb}
 use Rattle.laws.specs.Below.{below}
 use Rattle.laws.specs.Refusals.{Case, first}
@@ -13,8 +13,10 @@ use Rattle.frame.specs.declared.Number.{Number}
 use Rattle.frame.specs.Heading.{refusals, accepted}
 use Rattle.collector.specs.declared.Piece.{Piece}
 use Rattle.collector.specs.Whole.{passes}
-use Rattle.collector.specs.Collector.{pieceOf}
-use Rattle.order.specs.Held.{Four}
+use Rattle.collector.specs.declared.Collector.{Collector}
+use Rattle.collector.specs.Places.{marked}
+use Rattle.collector.specs.Collector.{pieceOf, keeps, offered, released}
+use Rattle.order.specs.Held.{Four, placeAt, bytesAt, holds, totalHeld, Act, offering, releasing}
 
 -- ---- frames with accepted headings
 
@@ -31,11 +33,11 @@ four x = (x .a, x .b, x .c, x .d)
 abbrev pub ofPair : ℕ → ℕ → Piece → Bool
 ofPair l v x = eqb (x .heading .level) l && eqb (x .heading .version) v
 
--- of this pair and this number (01, Collector)
+-- of this pair and this number
 abbrev pub ofNumber : ℕ → ℕ → Number → Piece → Bool
 ofNumber l v n x = ofPair l v x && eqb (x .heading .number .0) (n .0)
 
--- the same four bytes (01, Collector)
+-- the same four bytes
 abbrev pub sameBytes : Piece → Piece → Bool
 sameBytes x y = eqb (x .a) (y .a) && (eqb (x .b) (y .b) && (eqb (x .c) (y .c) && eqb (x .d) (y .d)))
 
@@ -52,20 +54,24 @@ contradict x y =
 abbrev pub Pair : Type 0
 Pair = ℕ × ℕ
 
--- it is this pair (01, Collector)
-abbrev pub samePair : ℕ → ℕ → Pair → Bool
-samePair l v a = eqb (a .0) l && eqb (a .1) v
+-- it is this pair
+abbrev pub pairIs : ℕ → ℕ → Pair → Bool
+pairIs l v a = eqb (a .0) l && eqb (a .1) v
 
 -- the pair is among those of the list (demand 3)
-unfoldable pub among : ℕ → ℕ → List Pair → Bool
-among l v [] = false
-among l v (a ∷ qs) = samePair l v a || among l v qs
+unfoldable pub pairAmong : ℕ → ℕ → List Pair → Bool
+pairAmong l v [] = false
+pairAmong l v (a ∷ qs) = pairIs l v a || pairAmong l v qs
 
 -- ---- the bounds of demand 3: accepted headings name four pairs at most, and no two accepted frames contradict
 pub record Bounded (qs : List Pair) (fs : List (List ℕ)) : Type 0 where
   pub few : length qs ≤ 4
-  pub listed : (f : List ℕ) → List·Memᴰ f fs → accepted f ≡ true → among (pieceOf f .heading .level) (pieceOf f .heading .version) qs ≡ true
+  pub listed : (f : List ℕ) → List·Memᴰ f fs → accepted f ≡ true → pairAmong (pieceOf f .heading .level) (pieceOf f .heading .version) qs ≡ true
   pub clear : (f g : List ℕ) → List·Memᴰ f fs → List·Memᴰ g fs → accepted f ≡ true → accepted g ≡ true → contradict (pieceOf f) (pieceOf g) ≡ false
+
+-- each element of a frame is a byte
+abbrev pub Bytes : List ℕ → Type 0
+Bytes f = (i : ℕ) → getD f i 0 < 256
 
 -- the same frames in another order (demand 3)
 pub data Rearranged : List (List ℕ) → List (List ℕ) → Type 0 where
@@ -81,11 +87,15 @@ unfoldable pub firstOf : {B : Type 0} → (Piece → Bool) → (Piece → B) →
 firstOf is val [] = none
 firstOf is val (x ∷ xs) = cond (is x) (some (val x)) (firstOf is val xs)
 
--- the four bytes of a pair's number (demand 3)
+-- a frame of the list with an accepted heading that passes the test says b
+abbrev pub Said : {B : Type 0} → (Piece → Bool) → (Piece → B) → List (List ℕ) → B → Type 0
+Said is val fs b = (f : List ℕ) × List·Memᴰ f fs × (accepted f ≡ true) × (is (pieceOf f) ≡ true) × (val (pieceOf f) ≡ b)
+
+-- the four bytes of a pair's number
 abbrev pub given : List Piece → ℕ → ℕ → Number → Option Four
 given xs l v n = firstOf (ofNumber l v n) four xs
 
--- the total of a pair (demand 3)
+-- the total of a pair
 abbrev pub totalGiven : List Piece → ℕ → ℕ → Option Total
 totalGiven xs l v = firstOf (ofPair l v) (λ x. x .heading .total) xs
 
@@ -111,12 +121,12 @@ isSome (some a) = true
 unfoldable pub full : Total → (Number → Option Four) → Bool
 full t g = below (t .0) (λ n. isSome (g (record { 0 = n })))
 
--- the four bytes as a list, none where none are given (demand 3)
+-- the four bytes as a list, none where none are given
 abbrev pub bytesOf : Option Four → List ℕ
 bytesOf none = []
 bytesOf (some w) = w .0 ∷ w .1 ∷ w .2 ∷ w .3 ∷ []
 
--- the bytes joined, number by number (demand 3)
+-- the bytes joined, number by number
 unfoldable pub joinedTo : ℕ → (Number → Option Four) → List ℕ
 joinedTo zero g = []
 joinedTo (suc n) g = joinedTo n g ++ bytesOf (g (record { 0 = n }))
@@ -129,23 +139,50 @@ joinedBy t g = joinedTo (t .0) g
 unfoldable pub declareCases : Total → (Number → Option Four) → List Case
 declareCases t g = (full t g && not (passes (joinedBy t g)), 17) ∷ (full t g && passes (joinedBy t g), 1) ∷ []
 
--- what is given once the frame has come too (demand 3)
+-- what is given once the frame has come too
 abbrev pub givenWith : List Piece → Piece → Number → Option Four
 givenWith xs y n = given (xs ++ (y ∷ [])) (y .heading .level) (y .heading .version) n
 
--- 2 for the same frame again; else the pair is declared where this was its last missing number (demand 3)
+-- 2 for the same frame again; else the pair is declared where this was its last missing number
 unfoldable pub dueCases : List Piece → Piece → List Case
 dueCases xs y = (came xs y, 2) ∷ declareCases (y .heading .total) (givenWith xs y)
 
--- the answer due to a frame, from the frames before it: its heading's refusal first (demand 3)
+-- the answer due to a frame, from the frames before it: its heading's refusal first
 unfoldable pub due : List (List ℕ) → List ℕ → ℕ
 due before f = first (refusals f ++ dueCases (pieces before) (pieceOf f))
 
--- every number of a pair has come: as many as its total says (demand 3)
+-- every number of a pair has come: as many as its total says
 abbrev pub completeBy : Option Total → (Number → Option Four) → Bool
 completeBy none g = false
 completeBy (some t) g = full t g
 
--- by the total and the bytes that these frames give (demand 3)
+-- by the total and the bytes that these frames give
 abbrev pub completed : List Piece → ℕ → ℕ → Bool
 completed xs l v = completeBy (totalGiven xs l v) (given xs l v)
+
+-- ---- what a collector has of the frames
+
+-- every held place is of a pair that was given, with its total; every mark of a number that was given, with its bytes; and no pair is held twice
+pub record Accounted (fs : List (List ℕ)) (c : Collector) : Type 0 where
+  pub pair : (i : ℕ) → i < length (c .places) → placeAt c i .held ≡ true
+      → Said (ofPair (placeAt c i .level) (placeAt c i .version)) (λ x. x .heading .total) fs (placeAt c i .total)
+  pub mark : (i : ℕ) (n : Number) → i < length (c .places) → placeAt c i .held ≡ true → marked (placeAt c i) n ≡ true
+      → Said (ofNumber (placeAt c i .level) (placeAt c i .version) n) four fs (bytesAt (placeAt c i) n)
+  pub once : (i j : ℕ) → i < length (c .places) → j < length (c .places) → placeAt c i .held ≡ true → placeAt c j .held ≡ true
+      → placeAt c i .level ≡ placeAt c j .level → placeAt c i .version ≡ placeAt c j .version → i ≡ j
+
+-- ---- outside the bounds
+
+-- the frame is held then and was not before, its pair had no other total, and all else of every pair is as it was
+pub record Added (c : Collector) (x : Piece) (d : Collector) : Type 0 where
+  pub new : holds c (x .heading .level) (x .heading .version) (x .heading .number) ≡ none
+  pub agrees : (t : Total) → totalHeld c (x .heading .level) (x .heading .version) ≡ some t → t ≡ x .heading .total
+  pub bytes : (l v : ℕ) (n : Number) → holds d l v n ≡ cond (ofNumber l v n x) (some (four x)) (holds c l v n)
+  pub total : (l v : ℕ) → totalHeld d l v ≡ cond (ofPair l v x) (some (x .heading .total)) (totalHeld c l v)
+
+-- the frames of a pair that were offered and kept since its place was taken, behind those that were before: a release of the pair begins anew
+unfoldable pub keptSince : ℕ → ℕ → Collector → List Act → List (List ℕ) → List (List ℕ)
+keptSince l v c [] gs = gs
+keptSince l v c (offering f ∷ acts) gs =
+    keptSince l v (offered c f .collector) acts (cond (ofPair l v (pieceOf f) && keeps (offered c f .answer)) (f ∷ gs) gs)
+keptSince l v c (releasing i j ∷ acts) gs = keptSince l v (released c i j .collector) acts (cond (eqb i l && eqb j v) [] gs)

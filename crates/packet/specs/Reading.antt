@@ -9,6 +9,7 @@ use Rattle.laws.specs.Bits.{at, run, bits}
 use Rattle.laws.specs.Refusals.{Case, first}
 use Rattle.format.specs.declared.Line.{Line}
 use Rattle.format.specs.Format.{times, size, decode, flat, fine}
+use Rattle.size.specs.Size.{lengthField}
 use Rattle.packet.specs.declared.Form.{Form}
 use Rattle.packet.specs.declared.Content.{Content}
 use Rattle.packet.specs.declared.Content.the-variants as content
@@ -23,7 +24,7 @@ kindIn b = at (bits b) 0 5
 
 -- L, all bytes but the first two (01, Packet)
 abbrev pub lengthIn : List ℕ → ℕ
-lengthIn b = at (bits b) 5 11
+lengthIn b = lengthField b
 
 -- n (01, Packet)
 abbrev pub codesIn : List ℕ → ℕ

@@ -11,26 +11,26 @@ use borrow.Author.Tests.{eq-eqb}
 use Rattle.laws.proofs.Bits.{Under}
 use Rattle.block.specs.declared.Letter.the-variants.{A}
 use Rattle.frame.specs.OnAir.{streamOf}
-use Rattle.air.specs.OnAir.{framesFor, framesOf, answerOf, airedOf, outputOf}
+use Rattle.air.specs.OnAir.{framesFor, framesOf, answerOf, airedOf, airedInto}
 use Rattle.air.proofs.Answers.{length-frames, length-stream}
 use Rattle.receiver.specs.declared.Phase.the-variants.{Locked}
 use Rattle.receiver.specs.Receive.{freshReceiver}
-use Rattle.receiver.specs.Calls.{Call, allTaken, allFrames, lastReceiver, delivered, inBounds}
-use Rattle.receiver.proofs.CleanAir.{AreFrames, clean-air}
+use Rattle.receiver.specs.Calls.{Call, AreFrames, allTaken, allFrames, lastReceiver, delivered, inBounds}
+use Rattle.receiver.proofs.CleanAir.{clean-air}
 use Rattle.promises.proofs.Sent.{taken, frames-few, are-frames}
 
 module _ (p : List ℕ) (l v : ℕ) (out : List ℕ) (e : answerOf p l v out ≡ 0) where
   -- so many frames, thirteen bytes each
   frames-long : length (framesOf p l v) ≡ framesFor (length p)
   unfolding framesOf
-  frames-long = length-frames p l v 0 (framesFor (length p))
+  frames-long = length-frames p l v (record { 0 = 0 }) (framesFor (length p))
 
   stream-long : length (streamOf (framesOf p l v)) ≡ 13 * framesFor (length p)
   stream-long = length-stream (framesOf p l v) ∙ ap (λ (n : ℕ). 13 * n) frames-long
 
   -- what was written is the frames' stream
-  pub written : take (13 * airedOf p l v out .frames) (outputOf p l v out) ≡ streamOf (framesOf p l v)
-  unfolding airedOf outputOf
+  pub written : take (13 * airedOf p l v out .frames) (airedInto p l v out) ≡ streamOf (framesOf p l v)
+  unfolding airedOf airedInto
   written =
       let y : eqb (answerOf p l v out) 0 ≡ true = eq-eqb _ _ e in
       rw (y) (take-at (streamOf (framesOf p l v)) (drop (13 * framesFor (length p)) out) (13 * framesFor (length p)) stream-long)
@@ -48,7 +48,7 @@ back (f ∷ fs) (c ∷ cs) a h b d = clean-air f fs c cs a b d
 -- Whatever packet, level and version the on-air writer takes: the bytes that it writes, given to a fresh receiver in deliveries of at most 512 bytes
 -- cut anywhere, come back as exactly that packet's frames, in order; no delivery is refused, and the receiver ends locked, expecting A, with nothing pending.
 pub air-comes-back : (packet : List ℕ) (level version : ℕ) (out : List ℕ) → Under 256 packet → airedOf packet level version out .answer ≡ 0
-    → (calls : List Call) → inBounds calls ≡ true → delivered calls ≡ take (13 * airedOf packet level version out .frames) (outputOf packet level version out)
+    → (calls : List Call) → inBounds calls ≡ true → delivered calls ≡ take (13 * airedOf packet level version out .frames) (airedInto packet level version out)
     → (allTaken freshReceiver calls ≡ true)
     × (allFrames freshReceiver calls ≡ framesOf packet level version)
     × (lastReceiver freshReceiver calls ≡ record { phase = Locked A; bits = 0; count = 0; words = 0 })

@@ -10,11 +10,11 @@ use Rattle.laws.proofs.Cases.{if-no}
 use Rattle.laws.proofs.Refusals.{exact, done, listed}
 use Rattle.frame.specs.Heading.{refusals, noHeading, headingOf}
 use Rattle.frame.proofs.Accepted.{refusals-apart}
-use Rattle.air.specs.OnAir.{cases, answerOf, airedOf, outputOf}
+use Rattle.air.specs.OnAir.{cases, answerOf, airedOf, airedInto}
 use Rattle.receiver.specs.declared.Receiver.{Receiver}
-use Rattle.receiver.specs.Receive.{receivedOf, cases as receiveCases, answerOf as receiveAnswer, outputOf as receiveOutput}
+use Rattle.receiver.specs.Receive.{receivedOf, receiveCases, receiveAnswer, receivedInto}
 use Rattle.receiver.proofs.Cutting.{answer-is}
-use Rattle.receiver.proofs.Answers.{numbers-apart as receive-apart, refused-unchanged as receive-refused}
+use Rattle.receiver.proofs.Answers.{receive-apart, receive-refused}
 use Rattle.collector.specs.declared.Collector.{Collector}
 use Rattle.collector.specs.Places.{copyAnswer}
 use Rattle.collector.specs.Collector.{keeps, offerCases, offered, releaseCases, released, copiedCases, answered, copied}
@@ -51,12 +51,12 @@ answer-exact = (
 -- A refusal leaves everything as it was: a heading refused has fields of zero; a packet refused has no frame and the output as it was; a delivery
 -- refused the receiver and the output; a frame not kept and a release refused the collector; a copy refused size 0 and the memory lent.
 pub refused-unchanged : ((frame : List ℕ) → (headingOf frame .answer ≡ 0 → ⊥) → headingOf frame .heading ≡ noHeading)
-    × ((packet : List ℕ) (level version : ℕ) (out : List ℕ) → (airedOf packet level version out .answer ≡ 0 → ⊥) → (airedOf packet level version out .frames ≡ 0) × (outputOf packet level version out ≡ out))
-    × ((r : Receiver) (delivery out : List ℕ) → (receivedOf r delivery out .answer ≡ 0 → ⊥) → (receivedOf r delivery out .frames ≡ 0) × (receivedOf r delivery out .receiver ≡ r) × (receiveOutput r delivery out ≡ out))
+    × ((packet : List ℕ) (level version : ℕ) (out : List ℕ) → (airedOf packet level version out .answer ≡ 0 → ⊥) → (airedOf packet level version out .frames ≡ 0) × (airedInto packet level version out ≡ out))
+    × ((r : Receiver) (delivery out : List ℕ) → (receivedOf r delivery out .answer ≡ 0 → ⊥) → (receivedOf r delivery out .frames ≡ 0) × (receivedOf r delivery out .receiver ≡ r) × (receivedInto r delivery out ≡ out))
     × ((c : Collector) (frame : List ℕ) → keeps (offered c frame .answer) ≡ false → offered c frame .collector ≡ c)
     × ((c : Collector) (level version : ℕ) → (released c level version .answer ≡ 0 → ⊥) → released c level version .collector ≡ c)
     × ((c : Collector) (level version : ℕ) (out : List ℕ) → (answered c level version (length out) .answer ≡ 0 → ⊥) → (answered c level version (length out) .length ≡ 0) × (copied c level version out ≡ out))
-unfolding headingOf airedOf outputOf
+unfolding headingOf airedOf airedInto
 refused-unchanged = (
   λ f z. if-no _ noHeading (ne-eqb _ _ z),
   λ p l v out z. (if-no _ 0 (ne-eqb _ _ z), if-no _ out (ne-eqb _ _ z)),

@@ -11,7 +11,8 @@ use Rattle.laws.proofs.Bits.{Under}
 use Rattle.laws.proofs.Cases.{and-yes, or-no}
 use Rattle.laws.proofs.Refusals.{pass, none-left}
 use Rattle.frame.specs.Heading.{reserved}
-use Rattle.air.specs.OnAir.{framesFor, framesOf, sized, cases, answerOf, airedOf, outputOf}
+use Rattle.size.specs.Size.{packetSize}
+use Rattle.air.specs.OnAir.{framesFor, framesOf, sized, cases, answerOf, airedOf, airedInto}
 use Rattle.receiver.specs.Receive.{freshReceiver}
 use Rattle.receiver.specs.Calls.{Call, allTaken, allFrames, delivered, inBounds}
 use Rattle.collector.specs.declared.Collector.{Collector}
@@ -40,7 +41,7 @@ collected calls = offerAll nothing (allFrames freshReceiver calls)
 -- a packet that a reader accepts goes on air at any level and version that there are
 on-air : (p : List ℕ) (level version : ℕ) (out : List ℕ) → Accepted p → 1 ≤ level → level ≤ 6 → version ≤ 31 → 13 * framesFor (length p) ≤ length out
     → airedOf p level version out .answer ≡ 0
-unfolding airedOf answerOf cases sized reserved
+unfolding airedOf answerOf cases sized packetSize reserved
 on-air p level version out a low high v room =
     let long : 2 ≤ length p = omega (arith, a .least) in
     let s = and-yes _ (le-leb _ _ long) ∙ and-yes _ (le-leb _ _ (a .most)) ∙ eq-eqb _ _ (a .field) in
@@ -53,7 +54,7 @@ on-air p level version out a low high v room =
 pub chain : (f : Fields) (codes body room : List ℕ) → Typed f body → writing.writtenAnswer f codes body (length room) ≡ 0
     → (level version : ℕ) (out : List ℕ) → 1 ≤ level → level ≤ 6 → version ≤ 31 → 13 * framesFor (writing.sizeFor f body) ≤ length out
     → (calls : List Call) → inBounds calls ≡ true
-    → delivered calls ≡ take (13 * airedOf (packetOf f codes body room) level version out .frames) (outputOf (packetOf f codes body room) level version out)
+    → delivered calls ≡ take (13 * airedOf (packetOf f codes body room) level version out .frames) (airedInto (packetOf f codes body room) level version out)
     → (lent : List ℕ) → writing.sizeFor f body ≤ length lent
     → (airedOf (packetOf f codes body room) level version out .answer ≡ 0)
     × (allTaken freshReceiver calls ≡ true)

@@ -20,17 +20,18 @@ use Rattle.frame.specs.declared.Number.{Number}
 use Rattle.frame.specs.declared.Total.{Total}
 use Rattle.frame.specs.Heading.{refusals}
 use Rattle.frame.proofs.Accepted.{none-refused}
-use Rattle.air.specs.OnAir.{framesFor, checked, carried, framesFrom, framesOf, answerOf, airedOf}
+use Rattle.air.specs.OnAir.{framesFor, totalFor, withCheck, carried, framesFrom, framesOf, answerOf, airedOf}
 use Rattle.collector.specs.declared.Place.{Place}
 use Rattle.collector.specs.declared.Collector.{Collector}
 use Rattle.collector.specs.declared.Piece.{Piece}
-use Rattle.collector.specs.Whole.{packetSize, passes}
+use Rattle.size.specs.Size.{packetSize}
+use Rattle.collector.specs.Whole.{passes}
 use Rattle.collector.specs.Places.{isPair, complete, joined, whole, copyCases, copyAnswer, copyBytes}
 use Rattle.collector.specs.Collector.{nothing, indexOfPair, placeOf, pieceOf, offered, answered, copied}
 use Rattle.collector.proofs.Calls.{copy-held}
-use Rattle.order.specs.Held.{Four, fourAt, heldPlace, holdsIn, totalIn, holds, totalHeld, offerAll}
+use Rattle.order.specs.Held.{Good, Four, fourAt, heldPlace, holdsIn, totalIn, holds, totalHeld, offerAll}
 use Rattle.order.specs.Given.{pieces, four, Bounded, given, totalGiven, isSome, full, joinedTo, bytesOf, declareCases, dueCases, due}
-use Rattle.order.proofs.Keeping.{Good, empty-good}
+use Rattle.order.proofs.Keeping.{empty-good}
 use Rattle.order.proofs.HeldPlace.{held-place-found, held-place-missing}
 use Rattle.order.proofs.Declaring.{complete-full, joined-full}
 use Rattle.order.proofs.Running.{some-inj, none-some}
@@ -47,32 +48,32 @@ module _ (p : List ℕ) (l v : ℕ) (u : Under 256 p) (t : Taken p l v) where
   N = framesFor (length p)
 
   abbrev T : Total
-  T = record { 0 = framesFor (length p) }
+  T = totalFor (length p)
 
-  frames-on : (n m k : ℕ) → framesFrom p l v k (n + m) ≡ framesFrom p l v k n ++ framesFrom p l v (k + n) m
+  frames-on : (n m k : ℕ) → framesFrom p l v (record { 0 = k }) (n + m) ≡ framesFrom p l v (record { 0 = k }) n ++ framesFrom p l v (record { 0 = k + n }) m
   unfolding framesFrom
   frames-on zero m k =
       let e : k + 0 ≡ k = omega arith in
       let z : 0 + m ≡ m = omega arith in
-      ap (framesFrom p l v k) z ∙ ap (λ (j : ℕ). framesFrom p l v j m) (sym e)
+      ap (framesFrom p l v (record { 0 = k })) z ∙ ap (λ (j : ℕ). framesFrom p l v (record { 0 = j }) m) (sym e)
   frames-on (suc n) m k =
       let e : k + suc n ≡ k + 1 + n = omega arith in
       let z : suc n + m ≡ suc (n + m) = omega arith in
-      ap (framesFrom p l v k) z
-      ∙ ap (λ (fs : List (List ℕ)). frameAt p l v u t k ∷ fs) (frames-on n m (k + 1) ∙ ap (λ (j : ℕ). framesFrom p l v (k + 1) n ++ framesFrom p l v j m) (sym e))
+      ap (framesFrom p l v (record { 0 = k })) z
+      ∙ ap (λ (fs : List (List ℕ)). frameAt p l v u t k ∷ fs) (frames-on n m (k + 1) ∙ ap (λ (j : ℕ). framesFrom p l v (record { 0 = k + 1 }) n ++ framesFrom p l v (record { 0 = j }) m) (sym e))
 
   -- ---- what numbers with their bytes join to
   module _ (g : Number → Option Four) where
-    joined-upto : (n : ℕ) → ((m : ℕ) → m < n → g (record { 0 = m }) ≡ some (four (pieceAt p l v u t m))) → joinedTo n g ≡ padFrom (checked p) 0 (4 * n)
+    joined-upto : (n : ℕ) → ((m : ℕ) → m < n → g (record { 0 = m }) ≡ some (four (pieceAt p l v u t m))) → joinedTo n g ≡ padFrom (withCheck p) 0 (4 * n)
     unfolding joinedTo padFrom carried
     joined-upto zero e = refl
     joined-upto (suc n) e =
         let z : 4 * suc n ≡ 4 * n + 4 = omega arith in
         let s : 0 + 4 * n ≡ 4 * n = omega arith in
         ap₂ (λ (xs : List ℕ) (o : Option Four). xs ++ bytesOf o) (joined-upto n (λ m h. e m (omega arith))) (e n (omega arith))
-        ∙ ap (λ (xs : List ℕ). padFrom (checked p) 0 (4 * n) ++ xs) (sym (ap (λ (j : ℕ). padFrom (checked p) j 4) s ∙ pad-four (checked p) (4 * n)))
-        ∙ pad-on (checked p) (4 * n) 4 0
-        ∙ ap (padFrom (checked p) 0) (sym z)
+        ∙ ap (λ (xs : List ℕ). padFrom (withCheck p) 0 (4 * n) ++ xs) (sym (ap (λ (j : ℕ). padFrom (withCheck p) j 4) s ∙ pad-four (withCheck p) (4 * n)))
+        ∙ pad-on (withCheck p) (4 * n) 4 0
+        ∙ ap (padFrom (withCheck p) 0) (sym z)
 
     module _ (e : (m : ℕ) → m < N → g (record { 0 = m }) ≡ some (four (pieceAt p l v u t m))) where
       joined-is : joinedTo N g ≡ p ++ behind p l v u t (fill p l v u t)
@@ -94,15 +95,15 @@ module _ (p : List ℕ) (l v : ℕ) (u : Under 256 p) (t : Taken p l v) where
   abbrev so-far : ℕ → Number → Option Four
   so-far k n = given (piecesFrom p l v u t 0 k ++ (pieceAt p l v u t k ∷ [])) l v n
 
-  to-declare : (k : ℕ) → k < N → due (framesFrom p l v 0 k) (frameAt p l v u t k) ≡ first (declareCases T (so-far k))
+  to-declare : (k : ℕ) → k < N → due (framesFrom p l v (record { 0 = 0 }) k) (frameAt p l v u t k) ≡ first (declareCases T (so-far k))
   unfolding due dueCases
   to-declare k h =
-      first-append (refusals (frameAt p l v u t k)) (dueCases (pieces (framesFrom p l v 0 k)) (pieceOf (frameAt p l v u t k)))
+      first-append (refusals (frameAt p l v u t k)) (dueCases (pieces (framesFrom p l v (record { 0 = 0 }) k)) (pieceOf (frameAt p l v u t k)))
       ∙ if-yes _ _ (none-refused (frameAt p l v u t k) (none-due p l v u t k h))
       ∙ ap₂ (λ (xs : List Piece) (x : Piece). first (dueCases xs x)) (pieces-are p l v u t k 0 (omega arith)) (piece-is p l v u t k h)
       ∙ pass 2 _ (not-come p l v u t k 0 k (omega arith))
 
-  due-0 : (k : ℕ) → k + 1 < N → due (framesFrom p l v 0 k) (frameAt p l v u t k) ≡ 0
+  due-0 : (k : ℕ) → k + 1 < N → due (framesFrom p l v (record { 0 = 0 }) k) (frameAt p l v u t k) ≡ 0
   unfolding declareCases full
   due-0 k h =
       let e : full T (so-far k) ≡ false = below-no N (λ n. isSome (so-far k (record { 0 = n }))) (k + 1) h (ap isSome (given-before k (record { 0 = k + 1 }) ∙ given-out p l v u t (suc k) 0 (k + 1) (omega arith))) in
@@ -111,7 +112,7 @@ module _ (p : List ℕ) (l v : ℕ) (u : Under 256 p) (t : Taken p l v) where
   all-so-far : (k : ℕ) → k + 1 ≡ N → (m : ℕ) → m < N → so-far k (record { 0 = m }) ≡ some (four (pieceAt p l v u t m))
   all-so-far k h m b = given-before k (record { 0 = m }) ∙ given-in p l v u t (suc k) 0 m (omega arith) (omega arith)
 
-  due-1 : (k : ℕ) → k + 1 ≡ N → due (framesFrom p l v 0 k) (frameAt p l v u t k) ≡ 1
+  due-1 : (k : ℕ) → k + 1 ≡ N → due (framesFrom p l v (record { 0 = 0 }) k) (frameAt p l v u t k) ≡ 1
   unfolding declareCases
   due-1 k h =
       let e = all-so-far k h in
@@ -121,31 +122,31 @@ module _ (p : List ℕ) (l v : ℕ) (u : Under 256 p) (t : Taken p l v) where
 
   -- ---- the answers in turn
   abbrev after : ℕ → Collector
-  after k = offerAll nothing (framesFrom p l v 0 k)
+  after k = offerAll nothing (framesFrom p l v (record { 0 = 0 }) k)
 
-  split : (k n : ℕ) → k + suc n ≡ N → framesOf p l v ≡ framesFrom p l v 0 k ++ (frameAt p l v u t k ∷ framesFrom p l v (k + 1) n)
+  split : (k n : ℕ) → k + suc n ≡ N → framesOf p l v ≡ framesFrom p l v (record { 0 = 0 }) k ++ (frameAt p l v u t k ∷ framesFrom p l v (record { 0 = k + 1 }) n)
   unfolding framesOf framesFrom
   split k n h =
       let z : 0 + k ≡ k = omega arith in
-      ap (framesFrom p l v 0) (sym h) ∙ frames-on k (suc n) 0 ∙ ap (λ (j : ℕ). framesFrom p l v 0 k ++ framesFrom p l v j (suc n)) z
+      ap (framesFrom p l v (record { 0 = 0 })) (sym h) ∙ frames-on k (suc n) 0 ∙ ap (λ (j : ℕ). framesFrom p l v (record { 0 = 0 }) k ++ framesFrom p l v (record { 0 = j }) (suc n)) z
 
-  answer-at : (k n : ℕ) → k + suc n ≡ N → offered (after k) (frameAt p l v u t k) .answer ≡ due (framesFrom p l v 0 k) (frameAt p l v u t k)
+  answer-at : (k n : ℕ) → k + suc n ≡ N → offered (after k) (frameAt p l v u t k) .answer ≡ due (framesFrom p l v (record { 0 = 0 }) k) (frameAt p l v u t k)
   answer-at k n h =
-      answers ((l, v) ∷ []) (framesFrom p l v 0 k) (frameAt p l v u t k) (framesFrom p l v (k + 1) n)
+      answers ((l, v) ∷ []) (framesFrom p l v (record { 0 = 0 }) k) (frameAt p l v u t k) (framesFrom p l v (record { 0 = k + 1 }) n)
       (subst (Bounded ((l, v) ∷ [])) (split k n h) (bounded p l v u t))
 
   next-is : (k : ℕ) → offered (after k) (frameAt p l v u t k) .collector ≡ after (k + 1)
   unfolding offerAll framesFrom
   next-is k =
       let z : 0 + k ≡ k = omega arith in
-      sym (ap (offerAll nothing) (frames-on k 1 0 ∙ ap (λ (j : ℕ). framesFrom p l v 0 k ++ framesFrom p l v j 1) z) ∙ offer-on (framesFrom p l v 0 k) (frameAt p l v u t k ∷ []) nothing)
+      sym (ap (offerAll nothing) (frames-on k 1 0 ∙ ap (λ (j : ℕ). framesFrom p l v (record { 0 = 0 }) k ++ framesFrom p l v (record { 0 = j }) 1) z) ∙ offer-on (framesFrom p l v (record { 0 = 0 }) k) (frameAt p l v u t k ∷ []) nothing)
 
-  answers-from : (n k : ℕ) → k + suc n ≡ N → answersTo (after k) (framesFrom p l v k (suc n)) ≡ replicate n 0 ++ (1 ∷ [])
+  answers-from : (n k : ℕ) → k + suc n ≡ N → answersTo (after k) (framesFrom p l v (record { 0 = k }) (suc n)) ≡ replicate n 0 ++ (1 ∷ [])
   unfolding answersTo framesFrom
   answers-from zero k h = ap (λ (a : ℕ). a ∷ []) (answer-at k 0 h ∙ due-1 k (omega arith))
   answers-from (suc n) k h =
       ap₂ (λ (a : ℕ) (xs : List ℕ). a ∷ xs) (answer-at k (suc n) h ∙ due-0 k (omega arith))
-      (ap (λ (c : Collector). answersTo c (framesFrom p l v (k + 1) (suc n))) (next-is k) ∙ answers-from n (k + 1) (omega arith))
+      (ap (λ (c : Collector). answersTo c (framesFrom p l v (record { 0 = k + 1 }) (suc n))) (next-is k) ∙ answers-from n (k + 1) (omega arith))
 
   all-answers : answersTo nothing (framesOf p l v) ≡ replicate (N - 1) 0 ++ (1 ∷ [])
   unfolding framesOf offerAll framesFrom
@@ -153,7 +154,7 @@ module _ (p : List ℕ) (l v : ℕ) (u : Under 256 p) (t : Taken p l v) where
       let f = frames-few p l v t .0 in
       let e : N ≡ suc (N - 1) = omega arith in
       let h : 0 + suc (N - 1) ≡ N = omega arith in
-      ap (λ (n : ℕ). answersTo nothing (framesFrom p l v 0 n)) e ∙ answers-from (N - 1) 0 h
+      ap (λ (n : ℕ). answersTo nothing (framesFrom p l v (record { 0 = 0 }) n)) e ∙ answers-from (N - 1) 0 h
 
   -- ---- copy
   abbrev ended : Collector

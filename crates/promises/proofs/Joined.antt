@@ -11,9 +11,10 @@ use Rattle.laws.specs.Scan.{all}
 use Rattle.laws.proofs.Bits.{Under}
 use Rattle.laws.proofs.Cases.{and-yes}
 use Rattle.crc.specs.Crc16.{crc16}
-use Rattle.air.specs.OnAir.{framesFor, checked}
-use Rattle.air.proofs.Laws.{stated}
-use Rattle.collector.specs.Whole.{packetSize, sized, checked as checks, isFill, filled, passes}
+use Rattle.size.specs.Size.{packetSize}
+use Rattle.size.proofs.Size.{size-bytes}
+use Rattle.air.specs.OnAir.{framesFor, withCheck}
+use Rattle.collector.specs.Whole.{sized, checked, isFill, filled, passes}
 use Rattle.promises.proofs.Sent.{Taken}
 
 abbrev ones : ℕ → List ℕ
@@ -83,17 +84,15 @@ module _ (p : List ℕ) (l v : ℕ) (u : Under 256 p) (t : Taken p l v) where
   behind k = hi ∷ lo ∷ ones k
 
   pub size-is : (r : List ℕ) → packetSize (p ++ r) ≡ length p
-  unfolding packetSize
   size-is r =
       let a = t .long in
       let e₀ : getD (p ++ r) 0 0 ≡ getD p 0 0 = List·getD-append p r 0 0 (omega arith) in
       let e₁ : getD (p ++ r) 1 0 ≡ getD p 1 0 = List·getD-append p r 0 1 (omega arith) in
       let s = t .stated in
-      let b = u 1 in
-      omega (arith, stated (p ++ r) (omega arith), stated p b)
+      omega (arith, size-bytes (p ++ r), size-bytes p)
 
   pub passes-is : (k : ℕ) → k ≤ 3 → passes (p ++ behind k) ≡ true
-  unfolding passes sized checks filled
+  unfolding passes sized checked filled
   passes-is k h =
       let n = size-is (behind k) in
       let a : length (p ++ behind k) ≡ length p + (2 + k) = length-append p (behind k) ∙ omega (arith, length-fill k) in
@@ -121,9 +120,9 @@ module _ (p : List ℕ) (l v : ℕ) (u : Under 256 p) (t : Taken p l v) where
   fill-small = omega arith
 
   -- what all frames carry
-  pub carried-whole : padFrom (checked p) 0 (4 * framesFor (length p)) ≡ p ++ behind fill
-  unfolding checked framesFor
+  pub carried-whole : padFrom (withCheck p) 0 (4 * framesFor (length p)) ≡ p ++ behind fill
+  unfolding withCheck framesFor
   carried-whole =
-      let n : length (checked p) ≡ length p + 2 = length-append p (hi ∷ lo ∷ []) in
-      let e : 4 * framesFor (length p) ≡ length (checked p) + fill = omega arith in
-      ap (padFrom (checked p) 0) e ∙ pad-whole (checked p) fill ∙ append-assoc p (hi ∷ lo ∷ []) (ones fill)
+      let n : length (withCheck p) ≡ length p + 2 = length-append p (hi ∷ lo ∷ []) in
+      let e : 4 * framesFor (length p) ≡ length (withCheck p) + fill = omega arith in
+      ap (padFrom (withCheck p) 0) e ∙ pad-whole (withCheck p) fill ∙ append-assoc p (hi ∷ lo ∷ []) (ones fill)

@@ -15,13 +15,13 @@ use Rattle.laws.proofs.Cases.{if-yes, if-no, and-no, or-no}
 use Rattle.laws.proofs.Elements.{by-test}
 use Rattle.frame.specs.declared.Headed.{Headed}
 use Rattle.frame.specs.declared.Heading.{Heading}
-use Rattle.frame.specs.Heading.{refusals, fieldsOf, headingOf, accepted}
+use Rattle.frame.specs.Heading.{refusals, headingFields, headingOf, accepted}
 use Rattle.frame.proofs.Back.{comes-back}
 use Rattle.frame.proofs.Accepted.{answer-is, fields-are}
-use Rattle.air.specs.OnAir.{framesFor, carried, frameOf, headingFor, framesFrom, framesOf}
+use Rattle.air.specs.OnAir.{framesFor, totalFor, carried, frameOf, headingFor, framesFrom, framesOf}
 use Rattle.collector.specs.declared.Piece.{Piece}
 use Rattle.collector.specs.Collector.{pieceWith, pieceOf}
-use Rattle.order.specs.Given.{pieces, four, ofNumber, contradict, among, Bounded, firstOf, given, totalGiven, same, came}
+use Rattle.order.specs.Given.{pieces, four, ofNumber, contradict, pairAmong, Bounded, firstOf, given, totalGiven, same, came}
 use Rattle.order.proofs.Offering.{pieces-yes}
 use Rattle.promises.proofs.Sent.{Taken, carried-small, eight-of, fits}
 
@@ -30,12 +30,12 @@ module _ (p : List ℕ) (l v : ℕ) (u : Under 256 p) (t : Taken p l v) where
   N = framesFor (length p)
 
   abbrev pub frameAt : ℕ → List ℕ
-  frameAt k = frameOf p (headingFor l v (framesFor (length p)) k)
+  frameAt k = frameOf p (headingFor l v (totalFor (length p)) (record { 0 = k }))
 
   abbrev pub pieceAt : ℕ → Piece
   pieceAt k =
       record {
-        heading = headingFor l v (framesFor (length p)) k;
+        heading = headingFor l v (totalFor (length p)) (record { 0 = k });
         a = carried p (4 * k);
         b = carried p (4 * k + 1);
         c = carried p (4 * k + 2);
@@ -43,11 +43,11 @@ module _ (p : List ℕ) (l v : ℕ) (u : Under 256 p) (t : Taken p l v) where
       }
 
   -- ---- one frame
-  headed : (k : ℕ) → k < N → headingOf (frameAt k) ≡ record { answer = 0; heading = headingFor l v N k }
+  headed : (k : ℕ) → k < N → headingOf (frameAt k) ≡ record { answer = 0; heading = headingFor l v (totalFor (length p)) (record { 0 = k }) }
   unfolding frameOf
   headed k h =
       let s = carried-small p u in
-      comes-back (headingFor l v N k) (fits p l v u t k h) (carried p (4 * k)) (carried p (4 * k + 1)) (carried p (4 * k + 2)) (carried p (4 * k + 3))
+      comes-back (headingFor l v (totalFor (length p)) (record { 0 = k })) (fits p l v u t k h) (carried p (4 * k)) (carried p (4 * k + 1)) (carried p (4 * k + 2)) (carried p (4 * k + 3))
       (s (4 * k)) (s (4 * k + 1)) (s (4 * k + 2)) (s (4 * k + 3)) (t .level-low) (t .level-high) h
 
   pub none-due : (k : ℕ) → k < N → first (refusals (frameAt k)) ≡ 0
@@ -59,19 +59,19 @@ module _ (p : List ℕ) (l v : ℕ) (u : Under 256 p) (t : Taken p l v) where
 
   pub piece-is : (k : ℕ) → k < N → pieceOf (frameAt k) ≡ pieceAt k
   piece-is k h =
-      let e : fieldsOf (frameAt k) ≡ headingFor l v N k = sym (fields-are (frameAt k) (none-due k h)) ∙ ap (λ (x : Headed). x .heading) (headed k h) in
-      ap (λ (x : Heading). pieceWith x (frameAt k)) e ∙ ap (pieceWith (headingFor l v N k)) (eight-of p (headingFor l v N k) (fits p l v u t k h))
+      let e : headingFields (frameAt k) ≡ headingFor l v (totalFor (length p)) (record { 0 = k }) = sym (fields-are (frameAt k) (none-due k h)) ∙ ap (λ (x : Headed). x .heading) (headed k h) in
+      ap (λ (x : Heading). pieceWith x (frameAt k)) e ∙ ap (pieceWith (headingFor l v (totalFor (length p)) (record { 0 = k }))) (eight-of p (headingFor l v (totalFor (length p)) (record { 0 = k })) (fits p l v u t k h))
 
   -- ---- several
   pub piecesFrom : ℕ → ℕ → List Piece
   piecesFrom k zero = []
   piecesFrom k (suc n) = pieceAt k ∷ piecesFrom (k + 1) n
 
-  pub pieces-are : (n k : ℕ) → k + n ≤ N → pieces (framesFrom p l v k n) ≡ piecesFrom k n
+  pub pieces-are : (n k : ℕ) → k + n ≤ N → pieces (framesFrom p l v (record { 0 = k }) n) ≡ piecesFrom k n
   unfolding framesFrom piecesFrom pieces
   pieces-are zero k h = refl
   pieces-are (suc n) k h =
-      pieces-yes (frameAt k) (framesFrom p l v (k + 1) n) (is-accepted k (omega arith))
+      pieces-yes (frameAt k) (framesFrom p l v (record { 0 = k + 1 }) n) (is-accepted k (omega arith))
       ∙ ap₂ (λ (x : Piece) (xs : List Piece). x ∷ xs) (piece-is k (omega arith)) (pieces-are n (k + 1) (omega arith))
 
   pub pieces-on : (n k : ℕ) → piecesFrom k n ++ (pieceAt (k + n) ∷ []) ≡ piecesFrom k (suc n)
@@ -135,13 +135,13 @@ module _ (p : List ℕ) (l v : ℕ) (u : Under 256 p) (t : Taken p l v) where
       rw (z, a, b, n, s, w, x, y, q))
       (λ e. rw (a, b, n, e))
 
-  one-of : (n k : ℕ) → k + n ≤ N → (f : List ℕ) → List·Memᴰ f (framesFrom p l v k n) → (j : ℕ) × (j < N) × (f ≡ frameAt j)
+  one-of : (n k : ℕ) → k + n ≤ N → (f : List ℕ) → List·Memᴰ f (framesFrom p l v (record { 0 = k }) n) → (j : ℕ) × (j < N) × (f ≡ frameAt j)
   unfolding framesFrom
   one-of zero k h f m = absurd (List·Memᴰ·not-nil m)
   one-of (suc n) k h f m = ⊎-elim (λ (e : f ≡ frameAt k). (k, omega arith, e)) (λ r. one-of n (k + 1) (omega arith) f r) (List·Memᴰ·cases-cons m)
 
   pub bounded : Bounded ((l, v) ∷ []) (framesOf p l v)
-  unfolding framesOf among
+  unfolding framesOf pairAmong
   bounded =
       record {
         few = omega arith;
@@ -150,8 +150,8 @@ module _ (p : List ℕ) (l v : ℕ) (u : Under 256 p) (t : Taken p l v) where
             let w = one-of N 0 (omega arith) f m in
             let a = eq-eqb l l refl in
             let b = eq-eqb v v refl in
-            ap (λ (g : List ℕ). among (pieceOf g .heading .level) (pieceOf g .heading .version) ((l, v) ∷ [])) (w .2)
-            ∙ ap (λ (x : Piece). among (x .heading .level) (x .heading .version) ((l, v) ∷ [])) (piece-is (w .0) (w .1))
+            ap (λ (g : List ℕ). pairAmong (pieceOf g .heading .level) (pieceOf g .heading .version) ((l, v) ∷ [])) (w .2)
+            ∙ ap (λ (x : Piece). pairAmong (x .heading .level) (x .heading .version) ((l, v) ∷ [])) (piece-is (w .0) (w .1))
             ∙ rw (a, b);
         clear =
             λ f g m n e₁ e₂.

@@ -7,25 +7,25 @@ use native.Mathlib.Omega.{arith}
 use lib.ListN.{length, getD}
 use lib.Dec.{leb, ltb}
 use borrow.Author.Tests.{eqb-true, leb-true, ltb-false, not-true}
-use Rattle.laws.specs.Bits.{at, bits}
 use Rattle.laws.specs.Refusals.{none, among, apart}
 use Rattle.laws.proofs.Bits.{Under, under-append}
 use Rattle.laws.proofs.Cases.{and-left, and-right}
 use Rattle.laws.proofs.Refusals.{done}
 use Rattle.crc.specs.Crc16.{crc16}
+use Rattle.size.specs.Size.{packetSize}
 use Rattle.crc.proofs.Remainder.{packet-check-is-remainder}
 use Rattle.frame.specs.declared.Heading.{Heading}
 use Rattle.frame.specs.Heading.{Fits, reserved}
 use Rattle.frame.proofs.Back.{bytes-of}
 use Rattle.frame.proofs.Accepted.{level-bounds}
-use Rattle.air.specs.OnAir.{framesFor, checked, carried, frameOf, headingFor, framesFrom, framesOf, sized, cases, answerOf}
-use Rattle.receiver.proofs.CleanAir.{IsFrame, AreFrames}
+use Rattle.air.specs.OnAir.{framesFor, totalFor, withCheck, carried, frameOf, headingFor, framesFrom, framesOf, sized, cases, answerOf}
+use Rattle.receiver.specs.Calls.{IsFrame, AreFrames}
 
 -- a packet, level and version that are taken
 pub record Taken (p : List ℕ) (l v : ℕ) : Type 0 where
   pub long : 2 ≤ length p
   pub short : length p ≤ 250
-  pub stated : length p ≡ at (bits p) 5 11 + 2
+  pub stated : length p ≡ packetSize p
   pub level-low : 1 ≤ l
   pub level-high : l ≤ 6
   pub version-high : v ≤ 31
@@ -69,7 +69,7 @@ two-small a b ha hb (suc zero) = hb
 two-small a b ha hb (suc (suc i)) = omega arith
 
 pub carried-small : (p : List ℕ) → Under 256 p → (i : ℕ) → carried p i < 256
-unfolding carried checked
+unfolding carried withCheck
 carried-small p u i =
     let s : crc16 p < 2 ^ 16 = packet-check-is-remainder p u .shorter in
     padded-small (p ++ (crc16 p / 2 ^ 8 ∷ crc16 p % 2 ^ 8 ∷ [])) (under-append 256 p _ u (two-small _ _ (omega arith) (omega arith))) i
@@ -112,14 +112,14 @@ frames-few p l v t =
     (omega arith, omega arith)
 
 module _ (p : List ℕ) (l v : ℕ) (u : Under 256 p) (t : Taken p l v) where
-  pub fits : (k : ℕ) → k < framesFor (length p) → Fits (headingFor l v (framesFor (length p)) k)
+  pub fits : (k : ℕ) → k < framesFor (length p) → Fits (headingFor l v (totalFor (length p)) (record { 0 = k }))
   fits k h =
       let a = t .level-high in
       let b = t .version-high in
       let c = frames-few p l v t .1 in
       record { level = omega arith; version = omega arith; total = omega arith; number = omega arith }
 
-  are-from : (n k : ℕ) → k + n ≤ framesFor (length p) → AreFrames (framesFrom p l v k n)
+  are-from : (n k : ℕ) → k + n ≤ framesFor (length p) → AreFrames (framesFrom p l v (record { 0 = k }) n)
   unfolding framesFrom
   are-from zero k h = tt
   are-from (suc n) k h = (is-frame p u _ (fits k (omega arith)), are-from n (k + 1) (omega arith))

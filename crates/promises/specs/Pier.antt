@@ -1,4 +1,4 @@
--- The pier examples that paper 01 marks P, as one table.
+-- The pier examples that paper 01 marks P (01, Pier examples), as one table; they stand nowhere else.
 use mathlib.Core.Bool.{Bool, _&&_}
 use mathlib.Core.List.{List, [], _∷_, _++_}
 use Prim.Native.Nat.{ℕ, _+_, _*_}
@@ -12,15 +12,18 @@ use Rattle.air.specs.OnAir.{framesFor}
 use Rattle.packet.specs.declared.Fields.{Fields}
 use Rattle.packet.specs.Writing.{sizeFor, bytesFor, writtenAnswer}
 use Rattle.packet.specs.Examples.{textSample, holdSample}
-use Rattle.frame.specs.Examples.{numbered}
 
--- what an example says (01, Pier examples)
+-- level 5, version 3, total 20
+abbrev pub numbered : ℕ → Heading
+numbered n = record { level = 5; version = 3; total = record { 0 = 20 }; number = record { 0 = n } }
+
+-- what an example says
 pub data Example : Type 0 where
   -- the check word of an information word with an offset added
   check : (info offset word : ℕ) → Example
   -- blocks 1 and 2 of a heading
   blocks : (heading : Heading) (one two : ℕ) → Example
-  -- the answer to a frame with this heading
+  -- the answer to a frame with this heading, whatever four bytes it carries
   headed : (heading : Heading) (answer : ℕ) → Example
   -- a packet that the writer takes: its size, and its first two bytes
   packet : (fields : Fields) (codes body : List ℕ) (size first second : ℕ) → Example
@@ -29,18 +32,18 @@ pub data Example : Type 0 where
   -- how many frames a packet of so many bytes takes, and how many bytes of fill
   frames : (size count fill : ℕ) → Example
 
--- it is so by the definitions that the contracts cite (01, Pier examples)
-unfoldable pub holds : Example → Bool
-holds (check info offset word) = eqb (checkWord info offset) word
-holds (blocks h one two) = eqb (headingWords h .0) one && eqb (headingWords h .1) two
-holds (headed h answer) = eqb (headingOf (headingBytes h ++ (1 ∷ 2 ∷ 3 ∷ 4 ∷ [])) .answer) answer
-holds (packet f codes body size first second) =
+-- it is so by the definitions that the contracts cite, with so many bytes lent, in frames that carry these four
+unfoldable pub holds : ℕ → ℕ → ℕ → ℕ → ℕ → Example → Bool
+holds lent a b c d (check info offset word) = eqb (checkWord info offset) word
+holds lent a b c d (blocks h one two) = eqb (headingWords h .0) one && eqb (headingWords h .1) two
+holds lent a b c d (headed h answer) = eqb (headingOf (headingBytes h ++ (a ∷ b ∷ c ∷ d ∷ [])) .answer) answer
+holds lent a b c d (packet f codes body size first second) =
     eqb (writtenAnswer f codes body size) 0
     && (eqb (sizeFor f body) size && (eqb (getD (bytesFor f codes body) 0 0) first && eqb (getD (bytesFor f codes body) 1 0) second))
-holds (refused f codes body answer) = eqb (writtenAnswer f codes body 4096) answer
-holds (frames size count fill) = eqb (framesFor size) count && eqb (count * 4) (size + 2 + fill)
+holds lent a b c d (refused f codes body answer) = eqb (writtenAnswer f codes body lent) answer
+holds lent a b c d (frames size count fill) = eqb (framesFor size) count && eqb (count * 4) (size + 2 + fill)
 
--- the cases in the order of the paper (01, Pier examples)
+-- the cases in the order of the paper
 unfoldable pub examples : List Example
 examples =
     check 0x0000 (offsetOf A) 0x0FC

@@ -8,7 +8,7 @@ use Rattle.receiver.specs.declared.Phase.{Phase}
 use Rattle.receiver.specs.declared.Phase.the-variants.{Hunting, Locked}
 use Rattle.receiver.specs.declared.Receiver.{Receiver}
 use Rattle.receiver.specs.declared.Received.{Received}
-use Rattle.receiver.specs.Receive.{receivedOf, outputOf}
+use Rattle.receiver.specs.Receive.{receivedOf, receivedInto}
 use Rattle.radio.specs.declared.Radio.{Radio}
 use Rattle.radio.specs.declared.Heard.{Heard}
 
@@ -44,4 +44,4 @@ unfoldable pub heardOf : Radio → List ℕ → List ℕ → Heard
 heardOf r d out = cond (ltb 4 (r .phase)) (record { answer = 28; frames = 0; radio = r }) (heardAs (receivedOf (receiverOf r) d out))
 
 unfoldable pub outputAfter : Radio → List ℕ → List ℕ → List ℕ
-outputAfter r d out = cond (ltb 4 (r .phase)) out (outputOf (receiverOf r) d out)
+outputAfter r d out = cond (ltb 4 (r .phase)) out (receivedInto (receiverOf r) d out)

@@ -22,8 +22,7 @@ fn size_bad(b: &[u8]) -> bool
     if p > 250 {
         return true;
     }
-    let l = lines::medium(b, 5, 11) as usize;
-    if p != l + 2 {
+    if p != size::packet_size(b) {
         return true;
     }
     p < 77 + 12 * parts::codes_count(b)

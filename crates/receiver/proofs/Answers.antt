@@ -13,39 +13,39 @@ use Rattle.laws.proofs.Refusals.{exact}
 use Rattle.laws.proofs.Cases.{if-no, and-left, and-right}
 use Rattle.receiver.specs.declared.Receiver.{Receiver}
 use Rattle.receiver.specs.declared.Received.{Received}
-use Rattle.receiver.specs.Receive.{hearing, cases, answerOf, receivedOf, outputOf}
+use Rattle.receiver.specs.Receive.{hearing, receiveCases, receiveAnswer, receivedOf, receivedInto}
 use Rattle.receiver.proofs.Sound.{at-most-forty}
 use Rattle.receiver.proofs.Cutting.{answer-is}
 
 module _ (r : Receiver) (d out : List ℕ) where
-  pub numbers-apart : apart (cases r d out) ≡ true
-  unfolding cases apart among
-  numbers-apart = refl
+  pub receive-apart : apart (receiveCases r d out) ≡ true
+  unfolding receiveCases apart among
+  receive-apart = refl
 
-  four : length (cases r d out) ≡ 4
-  unfolding cases
+  four : length (receiveCases r d out) ≡ 4
+  unfolding receiveCases
   four = refl
 
   -- 28, 11, 10 and 19 come exactly when their case holds and none before it does: over 25 bits pending; over 512 bytes; an output under 320; a 41st frame.
   pub answer-exact : (k : ℕ) → k < 4
-      → (receivedOf r d out .answer ≡ caseAt (cases r d out) k .1) ↔ ((caseAt (cases r d out) k .0 ≡ true) × (none (take k (cases r d out)) ≡ true))
-  unfolding answerOf
+      → (receivedOf r d out .answer ≡ caseAt (receiveCases r d out) k .1) ↔ ((caseAt (receiveCases r d out) k .0 ≡ true) × (none (take k (receiveCases r d out)) ≡ true))
+  unfolding receiveAnswer
   answer-exact k h =
-      let e = exact (cases r d out) numbers-apart k (omega (arith, four)) in
+      let e = exact (receiveCases r d out) receive-apart k (omega (arith, four)) in
       (λ a. e .0 (sym (answer-is r d out) ∙ a), λ c. answer-is r d out ∙ e .1 c)
 
   -- A refusal hands back the receiver given and no frame, and leaves the output as it was.
-  pub refused-unchanged : (receivedOf r d out .answer ≡ 0 → ⊥)
-      → (receivedOf r d out .frames ≡ 0) × (receivedOf r d out .receiver ≡ r) × (outputOf r d out ≡ out)
-  unfolding receivedOf outputOf
-  refused-unchanged z =
-      let no : eqb (answerOf r d out) 0 ≡ false = ne-eqb (answerOf r d out) 0 (λ e. z (answer-is r d out ∙ e)) in
-      let s : receivedOf r d out ≡ record { answer = answerOf r d out; frames = 0; receiver = r } = if-no _ _ no in
+  pub receive-refused : (receivedOf r d out .answer ≡ 0 → ⊥)
+      → (receivedOf r d out .frames ≡ 0) × (receivedOf r d out .receiver ≡ r) × (receivedInto r d out ≡ out)
+  unfolding receivedOf receivedInto
+  receive-refused z =
+      let no : eqb (receiveAnswer r d out) 0 ≡ false = ne-eqb (receiveAnswer r d out) 0 (λ e. z (answer-is r d out ∙ e)) in
+      let s : receivedOf r d out ≡ record { answer = receiveAnswer r d out; frames = 0; receiver = r } = if-no _ _ no in
       (ap (λ (x : Received). x .frames) s, ap (λ (x : Received). x .receiver) s, if-no _ out no)
 
   -- A 41st frame never comes: 19 is tested for, and no record, delivery and output have it.
   pub no-41st : receivedOf r d out .answer ≡ 19 → ⊥
-  unfolding cases none
+  unfolding receiveCases none
   no-41st a =
       let c = answer-exact 3 (omega arith) .0 a in
       let n = c .1 in

@@ -19,7 +19,7 @@ use Rattle.frame.proofs.OnAir.{block-number, length-block, wordAt, block, infor
 use Rattle.receiver.specs.declared.Phase.the-variants.{Hunting, Locked}
 use Rattle.receiver.specs.Rule.{Heard, next, complete, kept, onto, heard}
 use Rattle.receiver.specs.Receive.{freshReceiver, endOf, hearing}
-use Rattle.receiver.specs.Calls.{Call, allTaken, allFrames, lastReceiver, delivered, inBounds}
+use Rattle.receiver.specs.Calls.{Call, IsFrame, AreFrames, allTaken, allFrames, lastReceiver, delivered, inBounds}
 use Rattle.receiver.proofs.Rule.{heard-short, heard-found, heard-pass}
 use Rattle.receiver.proofs.Cutting.{cutting-any, takes-all}
 
@@ -54,14 +54,6 @@ locks : (w : ℕ) (m g : List ℕ) → w < 2 ^ 16 → heard Hunting g (blockBits
 locks w m g h = heard-found g (blockBits w A ++ m) (there w A m h) (good w A m h) ∙ ap₂ (heard (Locked B)) (word w A m h) (rest w A m h)
 
 -- ---- a frame as it was made
--- eight bytes
-abbrev pub IsFrame : List ℕ → Type 0
-IsFrame f = (length f ≡ 8) × Under 256 f
-
-abbrev pub AreFrames : List (List ℕ) → Type 0
-AreFrames [] = Unit
-AreFrames (f ∷ fs) = IsFrame f × AreFrames fs
-
 module _ (f m : List ℕ) (i : IsFrame f) where
   small : (p : ℕ) → wordAt f p < 2 ^ 16
   small p = at-below (bits f) p 16 (under-spread 8 f)

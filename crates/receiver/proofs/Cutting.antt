@@ -19,8 +19,8 @@ use Rattle.receiver.specs.declared.Phase.the-variants.{Hunting, Locked}
 use Rattle.receiver.specs.declared.Receiver.{Receiver}
 use Rattle.receiver.specs.declared.Received.{Received}
 use Rattle.receiver.specs.Rule.{Heard, next, complete, kept, onto, rule, heard}
-use Rattle.receiver.specs.Receive.{begunOf, heldOf, endOf, hearing, joined, answerOf, receivedOf, written, outputOf}
-use Rattle.receiver.specs.Calls.{framesIn, handedOut, Call, allTaken, allFrames, lastReceiver, delivered, inBounds}
+use Rattle.receiver.specs.Receive.{begunOf, heldOf, endOf, hearing, joined, receiveAnswer, receivedOf, written, receivedInto}
+use Rattle.receiver.specs.Calls.{framesIn, Call, received, handedOut, allTaken, allFrames, lastReceiver, delivered, inBounds}
 use Rattle.receiver.proofs.Rule.{run, heard-found, heard-on, heard-pass, heard-fail}
 use Rattle.receiver.proofs.Sound.{Eights, hearing-sound, at-most-forty}
 use Rattle.receiver.proofs.Whole.{due-none}
@@ -101,45 +101,49 @@ frames-in (f ∷ fs) l (e, u) =
     (ap (λ (m : List ℕ). framesIn (length fs) (drop 8 m)) (append-assoc f (joined fs) l) ∙ ap (framesIn (length fs)) (drop-at f (joined fs ++ l) 8 e) ∙ frames-in fs l u)
 
 module _ (r : Receiver) (d out : List ℕ) where
-  pub answer-is : receivedOf r d out .answer ≡ answerOf r d out
+  pub answer-is : receivedOf r d out .answer ≡ receiveAnswer r d out
   unfolding receivedOf
-  answer-is = by (eqb (answerOf r d out) 0) refl
+  answer-is = by (eqb (receiveAnswer r d out) 0) refl
     where
-      by : (t : Bool) → eqb (answerOf r d out) 0 ≡ t → receivedOf r d out .answer ≡ answerOf r d out
-      by true e = ap (λ (x : Received). x .answer) (if-yes _ _ e) ∙ sym (eqb-true (answerOf r d out) 0 e)
+      by : (t : Bool) → eqb (receiveAnswer r d out) 0 ≡ t → receivedOf r d out .answer ≡ receiveAnswer r d out
+      by true e = ap (λ (x : Received). x .answer) (if-yes _ _ e) ∙ sym (eqb-true (receiveAnswer r d out) 0 e)
       by false e = ap (λ (x : Received). x .answer) (if-no _ _ e)
 
-  module _ (a : receivedOf r d out .answer ≡ 0) where
-    zero-yes : eqb (answerOf r d out) 0 ≡ true
-    zero-yes = eq-eqb (answerOf r d out) 0 (sym answer-is ∙ a)
+module _ (r : Receiver) (c : Call) (a : received r c .answer ≡ 0) where
+  zero-yes : eqb (receiveAnswer r (c .delivery) (c .output)) 0 ≡ true
+  zero-yes = eq-eqb (receiveAnswer r (c .delivery) (c .output)) 0 (sym (answer-is r (c .delivery) (c .output)) ∙ a)
 
-    received-is : receivedOf r d out ≡ record { answer = 0; frames = length (hearing r d .frames); receiver = endOf (hearing r d) }
-    unfolding receivedOf
-    received-is = if-yes _ _ zero-yes
+  received-is : received r c ≡ record { answer = 0; frames = length (hearing r (c .delivery) .frames); receiver = endOf (hearing r (c .delivery)) }
+  unfolding receivedOf
+  received-is = if-yes _ _ zero-yes
 
-    -- the receiver handed back is the one that the rule leaves
-    pub receiver-is-rule : receivedOf r d out .receiver ≡ endOf (hearing r d)
-    receiver-is-rule = ap (λ (x : Received). x .receiver) received-is
+  -- the receiver handed back is the one that the rule leaves
+  pub receiver-is-rule : received r c .receiver ≡ endOf (hearing r (c .delivery))
+  receiver-is-rule = ap (λ (x : Received). x .receiver) received-is
 
-    -- Where a delivery is taken, the count in the answer is the number of frames that the rule yields, and the output holds exactly those frames.
-    pub count-is-rule : (receivedOf r d out .frames ≡ length (hearing r d .frames)) × (handedOut r d out ≡ hearing r d .frames)
-    unfolding handedOut outputOf written
-    count-is-rule =
-        let n = ap (λ (x : Received). x .frames) received-is in
-        (n, ap₂ framesIn n (if-yes _ _ zero-yes) ∙ frames-in (hearing r d .frames) (drop (length (joined (hearing r d .frames))) out) (hearing-sound r d .eights))
+  -- Where a delivery is taken, the count in the answer is the number of frames that the rule yields, and the output holds exactly those frames.
+  pub count-is-rule : (received r c .frames ≡ length (hearing r (c .delivery) .frames)) × (handedOut r c ≡ hearing r (c .delivery) .frames)
+  unfolding handedOut receivedInto written
+  count-is-rule =
+      let n = ap (λ (x : Received). x .frames) received-is in
+      let fs = hearing r (c .delivery) .frames in
+      (n, ap₂ framesIn n (if-yes _ _ zero-yes) ∙ frames-in fs (drop (length (joined fs)) (c .output)) (hearing-sound r (c .delivery) .eights))
 
 -- ---- theorems
 -- Two deliveries, each taken, hand out the same frames as one delivery of their bytes, and leave the same receiver.
-pub cutting : (r : Receiver) (d e out p q : List ℕ)
-    → receivedOf r (d ++ e) out .answer ≡ 0 → receivedOf r d p .answer ≡ 0 → receivedOf (receivedOf r d p .receiver) e q .answer ≡ 0
-    → (handedOut r (d ++ e) out ≡ handedOut r d p ++ handedOut (receivedOf r d p .receiver) e q)
-    × (receivedOf r (d ++ e) out .receiver ≡ receivedOf (receivedOf r d p .receiver) e q .receiver)
-cutting r d e out p q a b c =
-    let h = hearing r d in
-    let s = receivedOf r d p .receiver in
-    let z : hearing s e ≡ hearing (endOf h) e = ap (λ (x : Receiver). hearing x e) (receiver-is-rule r d p b) in (
-      count-is-rule r (d ++ e) out a .1 ∙ ap (λ (x : Heard). x .frames) (hearing-cut r d e) ∙ sym (ap₂ _++_ (count-is-rule r d p b .1) (count-is-rule s e q c .1 ∙ ap (λ (x : Heard). x .frames) z)),
-      receiver-is-rule r (d ++ e) out a ∙ ap endOf (hearing-cut r d e) ∙ sym (receiver-is-rule s e q c ∙ ap endOf z),
+pub cutting : (r : Receiver) (whole one two : Call) → whole .delivery ≡ one .delivery ++ two .delivery
+    → received r whole .answer ≡ 0 → received r one .answer ≡ 0 → received (received r one .receiver) two .answer ≡ 0
+    → (handedOut r whole ≡ handedOut r one ++ handedOut (received r one .receiver) two)
+    × (received r whole .receiver ≡ received (received r one .receiver) two .receiver)
+cutting r whole one two e a b c =
+    let h = hearing r (one .delivery) in
+    let s = received r one .receiver in
+    let z : hearing s (two .delivery) ≡ hearing (endOf h) (two .delivery) = ap (λ (x : Receiver). hearing x (two .delivery)) (receiver-is-rule r one b) in
+    let w = ap (hearing r) e ∙ hearing-cut r (one .delivery) (two .delivery) in (
+      count-is-rule r whole a .1
+          ∙ ap (λ (x : Heard). x .frames) w
+          ∙ sym (ap₂ _++_ (count-is-rule r one b .1) (count-is-rule s two c .1 ∙ ap (λ (x : Heard). x .frames) z)),
+      receiver-is-rule r whole a ∙ ap endOf w ∙ sym (receiver-is-rule s two c ∙ ap endOf z),
     )
 
 -- Any deliveries, each taken, hand out together the frames that the rule yields of all their bytes, and leave the receiver that it leaves.
@@ -147,16 +151,16 @@ pub cutting-any : (r : Receiver) (c : Call) (cs : List Call) → allTaken r (c �
     → (allFrames r (c ∷ cs) ≡ hearing r (delivered (c ∷ cs)) .frames) × (lastReceiver r (c ∷ cs) ≡ endOf (hearing r (delivered (c ∷ cs))))
 unfolding allTaken allFrames lastReceiver delivered
 cutting-any r c [] t =
-    let a = eqb-true (receivedOf r (c .0) (c .1) .answer) 0 (and-left (eqb (receivedOf r (c .0) (c .1) .answer) 0) true t) in
-    let e : hearing r (c .0) ≡ hearing r (c .0 ++ []) = ap (hearing r) (sym (append-nil (c .0))) in
-    (append-nil (handedOut r (c .0) (c .1)) ∙ count-is-rule r (c .0) (c .1) a .1 ∙ ap (λ (x : Heard). x .frames) e, receiver-is-rule r (c .0) (c .1) a ∙ ap endOf e)
+    let a = eqb-true (received r c .answer) 0 (and-left (eqb (received r c .answer) 0) true t) in
+    let e : hearing r (c .delivery) ≡ hearing r (c .delivery ++ []) = ap (hearing r) (sym (append-nil (c .delivery))) in
+    (append-nil (handedOut r c) ∙ count-is-rule r c a .1 ∙ ap (λ (x : Heard). x .frames) e, receiver-is-rule r c a ∙ ap endOf e)
 cutting-any r c (b ∷ cs) t =
-    let s = receivedOf r (c .0) (c .1) .receiver in
-    let a = eqb-true (receivedOf r (c .0) (c .1) .answer) 0 (and-left (eqb (receivedOf r (c .0) (c .1) .answer) 0) (allTaken s (b ∷ cs)) t) in
-    let ih = cutting-any s b cs (and-right (eqb (receivedOf r (c .0) (c .1) .answer) 0) (allTaken s (b ∷ cs)) t) in
-    let w = hearing-cut r (c .0) (delivered (b ∷ cs)) in
-    let z : hearing s (delivered (b ∷ cs)) ≡ hearing (endOf (hearing r (c .0))) (delivered (b ∷ cs)) = ap (λ (x : Receiver). hearing x (delivered (b ∷ cs))) (receiver-is-rule r (c .0) (c .1) a) in (
-      ap₂ _++_ (count-is-rule r (c .0) (c .1) a .1) (ih .0 ∙ ap (λ (x : Heard). x .frames) z) ∙ sym (ap (λ (x : Heard). x .frames) w),
+    let s = received r c .receiver in
+    let a = eqb-true (received r c .answer) 0 (and-left (eqb (received r c .answer) 0) (allTaken s (b ∷ cs)) t) in
+    let ih = cutting-any s b cs (and-right (eqb (received r c .answer) 0) (allTaken s (b ∷ cs)) t) in
+    let w = hearing-cut r (c .delivery) (delivered (b ∷ cs)) in
+    let z : hearing s (delivered (b ∷ cs)) ≡ hearing (endOf (hearing r (c .delivery))) (delivered (b ∷ cs)) = ap (λ (x : Receiver). hearing x (delivered (b ∷ cs))) (receiver-is-rule r c a) in (
+      ap₂ _++_ (count-is-rule r c a .1) (ih .0 ∙ ap (λ (x : Heard). x .frames) z) ∙ sym (ap (λ (x : Heard). x .frames) w),
       ih .1 ∙ ap endOf z ∙ sym (ap endOf w),
     )
 
@@ -169,17 +173,20 @@ any-two-cuts r b c bs cs e t u =
     (x .0 ∙ ap (λ (l : List ℕ). hearing r l .frames) e ∙ sym (y .0), x .1 ∙ ap (λ (l : List ℕ). endOf (hearing r l)) e ∙ sym (y .1))
 
 -- A receiver with at most 25 bits pending takes every delivery of at most 512 bytes into an output of at least 320: no 41st frame comes.
-pub takes : (r : Receiver) (d out : List ℕ) → r .count ≤ 25 → length d ≤ 512 → 320 ≤ length out → receivedOf r d out .answer ≡ 0
-takes r d out h k l = answer-is r d out ∙ due-none r d out h k l (at-most-forty r d h k)
+pub takes : (r : Receiver) (c : Call) → r .count ≤ 25 → length (c .delivery) ≤ 512 → 320 ≤ length (c .output) → received r c .answer ≡ 0
+takes r c h k l =
+    let d = c .delivery in
+    let out = c .output in
+    answer-is r d out ∙ due-none r d out h k l (at-most-forty r d h k)
 
 -- And so for deliveries one after the other.
 pub takes-all : (r : Receiver) (cs : List Call) → r .count ≤ 25 → inBounds cs ≡ true → allTaken r cs ≡ true
 unfolding allTaken inBounds
 takes-all r [] h b = refl
 takes-all r (c ∷ cs) h b =
-    let s = leb (length (c .0)) 512 && leb 320 (length (c .1)) in
+    let s = leb (length (c .delivery)) 512 && leb 320 (length (c .output)) in
     let i = and-left s (inBounds cs) b in
-    let a = takes r (c .0) (c .1) h (leb-true (length (c .0)) 512 (and-left (leb (length (c .0)) 512) (leb 320 (length (c .1))) i)) (leb-true 320 (length (c .1)) (and-right (leb (length (c .0)) 512) (leb 320 (length (c .1))) i)) in
-    let n : receivedOf r (c .0) (c .1) .receiver .count ≤ 25 =
-    subst (λ (x : Receiver). x .count ≤ 25) (sym (receiver-is-rule r (c .0) (c .1) a)) (omega (arith, hearing-sound r (c .0) .short)) in
-    ap₂ _&&_ (eq-eqb (receivedOf r (c .0) (c .1) .answer) 0 a) (takes-all (receivedOf r (c .0) (c .1) .receiver) cs n (and-right s (inBounds cs) b))
+    let a = takes r c h (leb-true (length (c .delivery)) 512 (and-left (leb (length (c .delivery)) 512) (leb 320 (length (c .output))) i)) (leb-true 320 (length (c .output)) (and-right (leb (length (c .delivery)) 512) (leb 320 (length (c .output))) i)) in
+    let n : received r c .receiver .count ≤ 25 =
+    subst (λ (x : Receiver). x .count ≤ 25) (sym (receiver-is-rule r c a)) (omega (arith, hearing-sound r (c .delivery) .short)) in
+    ap₂ _&&_ (eq-eqb (received r c .answer) 0 a) (takes-all (received r c .receiver) cs n (and-right s (inBounds cs) b))

@@ -21,7 +21,7 @@ use Rattle.receiver.specs.declared.Receiver.{Receiver}
 use Rattle.receiver.specs.declared.Received.{Received}
 use Rattle.receiver.specs.declared.readers.Read.{Read}
 use Rattle.receiver.specs.Rule.{Heard, heard}
-use Rattle.receiver.specs.Receive.{before, passed, heldOf, hearing, joined, cases, answerOf, receivedOf, written, outputOf}
+use Rattle.receiver.specs.Receive.{before, passed, heldOf, hearing, joined, receiveCases, receiveAnswer, receivedOf, written, receivedInto}
 use Rattle.receiver.specs.Readers.{hunted, followedOn, Ready}
 use Rattle.receiver.proofs.Octets.{shifted-one}
 use Rattle.receiver.proofs.Window.{low-bits}
@@ -64,46 +64,46 @@ given-as room n r o {h} {h′} e g = subst (λ (x : Heard). Given room x n r o) 
 
 -- ---- the answer
 module _ (r : Receiver) (d out : List ℕ) where
-  pub due-28 : 25 < r .count → answerOf r d out ≡ 28
-  unfolding answerOf cases
+  pub due-28 : 25 < r .count → receiveAnswer r d out ≡ 28
+  unfolding receiveAnswer receiveCases
   due-28 h = stop 28 _ (lt-ltb 25 (r .count) h)
 
-  pub due-11 : r .count ≤ 25 → 512 < length d → answerOf r d out ≡ 11
-  unfolding answerOf cases
+  pub due-11 : r .count ≤ 25 → 512 < length d → receiveAnswer r d out ≡ 11
+  unfolding receiveAnswer receiveCases
   due-11 h k = pass 28 _ (le-ltb 25 (r .count) h) ∙ stop 11 _ (lt-ltb 512 (length d) k)
 
-  pub due-10 : r .count ≤ 25 → length d ≤ 512 → length out < 320 → answerOf r d out ≡ 10
-  unfolding answerOf cases
+  pub due-10 : r .count ≤ 25 → length d ≤ 512 → length out < 320 → receiveAnswer r d out ≡ 10
+  unfolding receiveAnswer receiveCases
   due-10 h k l = pass 28 _ (le-ltb 25 (r .count) h) ∙ pass 11 _ (le-ltb 512 (length d) k) ∙ stop 10 _ (lt-ltb (length out) 320 l)
 
-  pub due-19 : r .count ≤ 25 → length d ≤ 512 → 320 ≤ length out → 40 < length (hearing r d .frames) → answerOf r d out ≡ 19
-  unfolding answerOf cases
+  pub due-19 : r .count ≤ 25 → length d ≤ 512 → 320 ≤ length out → 40 < length (hearing r d .frames) → receiveAnswer r d out ≡ 19
+  unfolding receiveAnswer receiveCases
   due-19 h k l m = pass 28 _ (le-ltb 25 (r .count) h) ∙ pass 11 _ (le-ltb 512 (length d) k) ∙ pass 10 _ (le-ltb (length out) 320 l) ∙ stop 19 _ (lt-ltb 40 (length (hearing r d .frames)) m)
 
-  pub due-none : r .count ≤ 25 → length d ≤ 512 → 320 ≤ length out → length (hearing r d .frames) ≤ 40 → answerOf r d out ≡ 0
-  unfolding answerOf cases
+  pub due-none : r .count ≤ 25 → length d ≤ 512 → 320 ≤ length out → length (hearing r d .frames) ≤ 40 → receiveAnswer r d out ≡ 0
+  unfolding receiveAnswer receiveCases
   due-none h k l m = pass 28 _ (le-ltb 25 (r .count) h) ∙ pass 11 _ (le-ltb 512 (length d) k) ∙ pass 10 _ (le-ltb (length out) 320 l) ∙ pass 19 _ (le-ltb 40 (length (hearing r d .frames)) m) ∙ none-left
 
   -- a refusal returns the record given and writes nothing
-  pub refused : (k : ℕ) (x : Received) → answerOf r d out ≡ k → eqb k 0 ≡ false → x ≡ record { answer = k; frames = 0; receiver = r }
-      → (x ≡ receivedOf r d out) × (out ≡ outputOf r d out)
-  unfolding receivedOf outputOf
+  pub refused : (k : ℕ) (x : Received) → receiveAnswer r d out ≡ k → eqb k 0 ≡ false → x ≡ record { answer = k; frames = 0; receiver = r }
+      → (x ≡ receivedOf r d out) × (out ≡ receivedInto r d out)
+  unfolding receivedOf receivedInto
   refused k x e f g =
-      let t : eqb (answerOf r d out) 0 ≡ false = ap (λ (n : ℕ). eqb n 0) e ∙ f in
+      let t : eqb (receiveAnswer r d out) 0 ≡ false = ap (λ (n : ℕ). eqb n 0) e ∙ f in
       (g ∙ ap (λ (n : ℕ). record { answer = n; frames = 0; receiver = r }) (sym e) ∙ sym (if-no _ _ t), sym (if-no _ _ t))
 
   -- a delivery that is taken: the frames stood in the room, and are copied out
   pub taken : r .count ≤ 25 → length d ≤ 512 → 320 ≤ length out → (x : Read) (room room₀ part o : List ℕ) (n : ℕ)
       → length room₀ ≡ 320 → Given room₀ (hearing r d) 0 x room → x .frames ≤ 40 → part ≡ take n room → n ≡ x .frames * 8 → o ≡ take (length part) part ++ drop (length part) out
-      → (_≡_ {A = Received} (record { answer = 0; frames = x .frames; receiver = x .receiver }) (receivedOf r d out)) × (o ≡ outputOf r d out)
-  unfolding receivedOf outputOf written
+      → (_≡_ {A = Received} (record { answer = 0; frames = x .frames; receiver = x .receiver }) (receivedOf r d out)) × (o ≡ receivedInto r d out)
+  unfolding receivedOf receivedInto written
   taken h k l x room room₀ part o n z (g, s) m p q w =
       let fs = hearing r d .frames in
       let count : x .frames ≡ length fs = ap (λ (y : Read). y .frames) g ∙ zero-add (length fs) in
       let bytes : length (joined fs) ≡ n = eights-joined fs (hearing-sound r d .eights) ∙ omega arith in
       let e : part ≡ joined fs =
       p ∙ ap (take n) (s ∙ from-front (joined fs) room₀ (omega arith)) ∙ take-at (joined fs) (drop (length (joined fs)) room₀) n bytes in
-      let t : eqb (answerOf r d out) 0 ≡ true = ap (λ (a : ℕ). eqb a 0) (due-none h k l (omega arith)) in (
+      let t : eqb (receiveAnswer r d out) 0 ≡ true = ap (λ (a : ℕ). eqb a 0) (due-none h k l (omega arith)) in (
         ap₂ (λ (c : ℕ) (y : Receiver). record { answer = 0; frames = c; receiver = y }) count (ap (λ (y : Read). y .receiver) g) ∙ sym (if-yes _ _ t),
         w ∙ ap (λ (y : List ℕ). take (length y) y ++ drop (length y) out) e ∙ ap (λ (y : List ℕ). y ++ drop (length (joined fs)) out) (take-all (length (joined fs)) (joined fs) (omega arith)) ∙ sym (if-yes _ _ t),
       )

@@ -52,28 +52,28 @@ joined (f ∷ fs) = f ++ joined fs
 
 -- the refusals in their order (paper 01, "Numbers given back"): 28, a record with more than 25 bits pending; 11, a delivery of more than 512 bytes;
 -- 10, an output of fewer than 320; 19, a delivery that completes more than 40 frames
-unfoldable pub cases : Receiver → List ℕ → List ℕ → List Case
-cases r d out =
+unfoldable pub receiveCases : Receiver → List ℕ → List ℕ → List Case
+receiveCases r d out =
     (ltb 25 (r .count), 28)
     ∷ (ltb 512 (length d), 11)
     ∷ (ltb (length out) 320, 10)
     ∷ (ltb 40 (length (hearing r d .frames)), 19)
     ∷ []
 
-unfoldable pub answerOf : Receiver → List ℕ → List ℕ → ℕ
-answerOf r d out = first (cases r d out)
+unfoldable pub receiveAnswer : Receiver → List ℕ → List ℕ → ℕ
+receiveAnswer r d out = first (receiveCases r d out)
 
 -- refused: the record that was given, and no frame; taken: how many frames there are, and the receiver as the rule leaves it
 unfoldable pub receivedOf : Receiver → List ℕ → List ℕ → Received
 receivedOf r d out =
-    cond (eqb (answerOf r d out) 0)
+    cond (eqb (receiveAnswer r d out) 0)
     (record { answer = 0; frames = length (hearing r d .frames); receiver = endOf (hearing r d) })
-    (record { answer = answerOf r d out; frames = 0; receiver = r })
+    (record { answer = receiveAnswer r d out; frames = 0; receiver = r })
 
 -- the frames' bytes from the output's first byte, and the rest as it was
 unfoldable pub written : Receiver → List ℕ → List ℕ → List ℕ
 written r d out = joined (hearing r d .frames) ++ drop (length (joined (hearing r d .frames))) out
 
 -- refused: as it was
-unfoldable pub outputOf : Receiver → List ℕ → List ℕ → List ℕ
-outputOf r d out = cond (eqb (answerOf r d out) 0) (written r d out) out
+unfoldable pub receivedInto : Receiver → List ℕ → List ℕ → List ℕ
+receivedInto r d out = cond (eqb (receiveAnswer r d out) 0) (written r d out) out

@@ -10,7 +10,7 @@ ghost use mathlib.Core.Path.{_≡_};
 ghost use Prim.Native.Nat.{_≤_};
 ghost use lib.ListN.{length};
 ghost use lib.Seq.{sets};
-ghost use Rattle.receiver.specs.Receive.{freshReceiver, hearing, joined, receivedOf, outputOf};
+ghost use Rattle.receiver.specs.Receive.{freshReceiver, hearing, joined, receivedOf, receivedInto};
 ghost use Rattle.receiver.specs.Readers.{readOf};
 
 // Hunting for a first block, or locked and expecting a block of this letter.
@@ -77,7 +77,7 @@ fn read(receiver: Receiver, delivery: &[u8], room: &mut [u8]) -> Read
 // Takes a delivery. Frames go to the output only once it is known that none of them is refused.
 pub fn receive(receiver: Receiver, delivery: &[u8], out: &mut [u8]) -> Received
     ensures answer { λ r. ⌜ r ≡ receivedOf receiver (now (delivery .entry)) (now (out .entry)) ⌝ }
-    ensures out { λ _. ⌜ now (out .exit) ≡ outputOf receiver (now (delivery .entry)) (now (out .entry)) ⌝ }
+    ensures out { λ _. ⌜ now (out .exit) ≡ receivedInto receiver (now (delivery .entry)) (now (out .entry)) ⌝ }
 {
     if receiver.count > 25 {
         return refused(28, receiver);

@@ -1,12 +1,11 @@
 -- `air::on_air` meets its contract. Assumes nothing.
-use lib.ListN.{length}
 use borrow.Author.Tests.{not-true, not-false}
 use mathlib.Core.Path.{_≡_, sym, _∙_}
 use mathlib.Core.Bool.{true}
 use native.Mathlib.Omega.{arith}
 use Rattle.frame.proofs.Fields.{reserved-low, reserved-high, reserved-no}
 use Rattle.air.specs.OnAir.{sized}
-use Rattle.air.proofs.Stream.{few}
+use Rattle.air.proofs.Stream.{few-total}
 use Rattle.air.proofs.Answers.{sized-short, says-20, says-13, says-27, says-10, says-0}
 use borrow.Author.Needs.{needs}
 use Rattle.air.proofs.on_air.Statement.{statement}
@@ -33,33 +32,39 @@ returns-4 c =
     let s : sized (c .before .before .before .before .before .before .before .args .packet .now) ≡ true = sym (c .before .before .before .before .right-size .ensures) ∙ not-false (c .before .before .before .before .right-size .result) (c .before .before .before .if1 .left) in
     says-27 _ _ _ _ s (reserved-no _ (c .before .before .if2 .left) (omega arith)) (omega arith)
 
-frames-for-requires : tie.Need-frames-for-requires
-frames-for-requires c κs =
+total-for-requires : tie.Need-total-for-requires
+total-for-requires c κs =
     let s : sized (c .before .before .before .before .before .before .before .args .packet .now) ≡ true = sym (c .before .before .before .before .right-size .ensures) ∙ not-false (c .before .before .before .before .right-size .result) (c .before .before .before .if1 .left) in
     sized-short _ s
 
+cast-frames : tie.Need-cast-frames
+cast-frames c = search needs
+
 mul-if5 : tie.Need-mul-if5
 mul-if5 c =
-    let s : sized (c .before .before .before .before .before .before .before .before .args .packet .now) ≡ true = sym (c .before .before .before .before .before .right-size .ensures) ∙ not-false (c .before .before .before .before .before .right-size .result) (c .before .before .before .before .if1 .left) in
-    omega (arith, few (length (c .before .before .before .before .before .before .before .before .args .packet .now)) (sized-short _ s), c .frames-for .ensures)
+    let s : sized (c .before .before .before .before .before .before .before .before .before .args .packet .now) ≡ true = sym (c .before .before .before .before .before .before .right-size .ensures) ∙ not-false (c .before .before .before .before .before .before .right-size .result) (c .before .before .before .before .before .if1 .left) in
+    omega (arith, few-total (c .before .before .before .before .before .before .before .before .before .args .packet .now) _ (sized-short _ s) (c .before .total-for .ensures) .1)
 
 returns-5 : tie.Need-returns-5
 returns-5 c =
-    let s : sized (c .before .before .before .before .before .before .before .before .before .args .packet .now) ≡ true = sym (c .before .before .before .before .before .before .right-size .ensures) ∙ not-false (c .before .before .before .before .before .before .right-size .result) (c .before .before .before .before .before .if1 .left) in
-    says-10 _ _ _ _ s (reserved-no _ (c .before .before .before .before .if2 .left) (omega arith)) (omega arith) (omega (arith, c .before .frames-for .ensures))
+    let s : sized (c .before .before .before .before .before .before .before .before .before .before .args .packet .now) ≡ true = sym (c .before .before .before .before .before .before .before .right-size .ensures) ∙ not-false (c .before .before .before .before .before .before .before .right-size .result) (c .before .before .before .before .before .before .if1 .left) in
+    let t = few-total (c .before .before .before .before .before .before .before .before .before .before .args .packet .now) _ (sized-short _ s) (c .before .before .total-for .ensures) .0 in
+    says-10 _ _ _ _ s (reserved-no _ (c .before .before .before .before .before .if2 .left) (omega arith)) (omega arith) (omega arith)
 
 put-frames-requires : tie.Need-put-frames-requires
 put-frames-requires c κs =
-    let s : sized (c .before .before .before .before .before .before .before .before .before .before .args .packet .now) ≡ true = sym (c .before .before .before .before .before .before .before .right-size .ensures) ∙ not-false (c .before .before .before .before .before .before .before .right-size .result) (c .before .before .before .before .before .before .if1 .left) in
-    record { short = sized-short _ s; level-small = omega arith; version-small = omega arith; room = omega (arith, c .before .before .frames-for .ensures) }
+    let s : sized (c .before .before .before .before .before .before .before .before .before .before .before .args .packet .now) ≡ true = sym (c .before .before .before .before .before .before .before .before .right-size .ensures) ∙ not-false (c .before .before .before .before .before .before .before .before .right-size .result) (c .before .before .before .before .before .before .before .if1 .left) in
+    let t = few-total (c .before .before .before .before .before .before .before .before .before .before .before .args .packet .now) _ (sized-short _ s) (c .before .before .before .total-for .ensures) .0 in
+    record { short = sized-short _ s; level-small = omega arith; version-small = omega arith; room = omega arith }
 
 same-length : tie.Need-same-length
 same-length c = search needs
 
 returns-6 : tie.Need-returns-6
 returns-6 c =
-    let s : sized (c .before .before .before .before .before .before .before .before .before .before .before .before .before .args .packet .now) ≡ true = sym (c .before .before .before .before .before .before .before .before .before .before .right-size .ensures) ∙ not-false (c .before .before .before .before .before .before .before .before .before .before .right-size .result) (c .before .before .before .before .before .before .before .before .before .if1 .left) in
-    says-0 _ _ _ (c .before .before .before .before .before .before .before .before .before .before .before .before .before .args .out .now) s (reserved-no _ (c .before .before .before .before .before .before .before .before .if2 .left) (omega arith)) (omega arith) (omega (arith, c .before .before .before .before .before .frames-for .ensures)) _ (c .before .before .before .before .before .frames-for .ensures) _ (c .before .before .put-frames .ensures)
+    let s : sized (c .before .before .before .before .before .before .before .before .before .before .before .before .before .before .args .packet .now) ≡ true = sym (c .before .before .before .before .before .before .before .before .before .before .before .right-size .ensures) ∙ not-false (c .before .before .before .before .before .before .before .before .before .before .before .right-size .result) (c .before .before .before .before .before .before .before .before .before .before .if1 .left) in
+    let t = few-total (c .before .before .before .before .before .before .before .before .before .before .before .before .before .before .args .packet .now) _ (sized-short _ s) (c .before .before .before .before .before .before .total-for .ensures) .0 in
+    says-0 _ _ _ (c .before .before .before .before .before .before .before .before .before .before .before .before .before .before .args .out .now) s (reserved-no _ (c .before .before .before .before .before .before .before .before .before .if2 .left) (omega arith)) (omega arith) (omega arith) _ t _ (c .before .before .put-frames .ensures)
 
 pub on-air-spec : {M : Type 1} → statement M
 on-air-spec =
@@ -70,7 +75,8 @@ on-air-spec =
     returns-2
     returns-3
     returns-4
-    frames-for-requires
+    total-for-requires
+    cast-frames
     mul-if5
     returns-5
     put-frames-requires

@@ -7,13 +7,13 @@ use lib.ListN.{length, drop}
 use Rattle.laws.specs.Scan.{all}
 use Rattle.laws.proofs.Scan.{all-next, all-stop, all-end}
 use Rattle.laws.proofs.Elements.{length-mapped}
-use Rattle.collector.specs.Places.{apart}
+use Rattle.collector.specs.Places.{pairsApart}
 use borrow.Author.Needs.{needs}
 use Rattle.collector.proofs.alone.Statement.{statement}
 use Rattle.collector.proofs.alone.Tie as tie
 
 abbrev Inv-loop : tie.InvT-loop
-Inv-loop p i c j₀ j = (j ≤ 4) × (all (apart p) (drop (i + 1) (c .places)) ≡ all (apart p) (drop j (c .places)))
+Inv-loop p i c j₀ j = (j ≤ 4) × (all (pairsApart p) (drop (i + 1) (c .places)) ≡ all (pairsApart p) (drop j (c .places)))
 
 abbrev μ-loop : tie.MeasureT-loop
 μ-loop p i c j₀ j = 4 - j
@@ -37,7 +37,7 @@ returns : tie.Need-returns Inv-loop μ-loop
 returns c =
     let b = c .before .before .before .before in
     let xs = b .before .args .t1 .places in
-    let f = apart (b .before .args .p) in
+    let f = pairsApart (b .before .args .p) in
     let n : length xs ≡ 4 = search (needs, length-mapped) in
     sym (b .loop .inv .1 ∙ all-stop f xs _ (b .loop .j) (omega arith) (ap not (sym (c .before .same-pair .ensures) ∙ c .if1 .taken)))
 
@@ -51,7 +51,7 @@ loop-again : tie.Need-loop-again Inv-loop μ-loop
 loop-again c =
     let b = c .before .before .before .before in
     let xs = b .before .args .t1 .places in
-    let f = apart (b .before .args .p) in
+    let f = pairsApart (b .before .args .p) in
     let n : length xs ≡ 4 = search (needs, length-mapped) in
     (search needs, b .loop .inv .1 ∙ all-next f xs _ (b .loop .j) (omega arith) (ap not (sym (c .before .same-pair .ensures) ∙ c .if1 .left)))
 
@@ -60,7 +60,7 @@ returns-2 c =
     let b = c .before in
     let xs = b .before .args .t1 .places in
     let n : length xs ≡ 4 = search (needs, length-mapped) in
-    sym (b .loop .inv .1 ∙ all-end (apart (b .before .args .p)) xs (b .loop .j) (omega arith))
+    sym (b .loop .inv .1 ∙ all-end (pairsApart (b .before .args .p)) xs (b .loop .j) (omega arith))
 
 pub alone-spec : {M : Type 1} → statement M
 alone-spec =

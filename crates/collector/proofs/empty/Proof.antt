@@ -7,14 +7,14 @@ use borrow.Author.Needs.{needs}
 use Rattle.collector.proofs.empty.Statement.{statement}
 use Rattle.collector.proofs.empty.Tie as tie
 
-free-requires : tie.Need-free-requires
-free-requires c κs = search needs
+never-taken-requires : tie.Need-never-taken-requires
+never-taken-requires c κs = search needs
 
 abbrev four-of : Place → Collector
 four-of p = record { places = p ∷ p ∷ p ∷ p ∷ [] }
 
 returns : tie.Need-returns
-returns c = ap four-of (c .free .ensures)
+returns c = ap four-of (c .never-taken .ensures)
 
 pub empty-spec : {M : Type 1} → statement M
-empty-spec = tie.close (tie.spec free-requires returns)
+empty-spec = tie.close (tie.spec never-taken-requires returns)

@@ -5,7 +5,7 @@ use native.Mathlib.Omega.{arith}
 use borrow.Author.Tests.{not-true, not-false}
 use Rattle.collector.proofs.Calls.{offer-28, offer-heading, offer-taken}
 use Rattle.collector.specs.Collector.{pieceWith, pieceOf, takenIn}
-use Rattle.frame.specs.Heading.{refusals, fieldsOf}
+use Rattle.frame.specs.Heading.{refusals, headingFields}
 use Rattle.frame.specs.declared.Heading.{Heading}
 use Rattle.frame.specs.declared.Headed.{Headed}
 use Rattle.frame.proofs.Accepted.{answer-is, fields-are, eight-bytes, bounds}
@@ -42,7 +42,7 @@ take-in-requires : tie.Need-take-in-requires
 take-in-requires c κs =
     let f = c .before .before .before .before .before .before .before .args .frame .now in
     let e : first (refusals f) ≡ 0 = sym (ap (λ (h : Headed). h .answer) (c .before .before .before .heading-of .ensures) ∙ answer-is f) ∙ c .before .if2 .left in
-    let w : c .piece-of .result .heading ≡ fieldsOf f = ap (λ (x : Piece). x .heading) (c .piece-of .ensures) ∙ ap (λ (h : Headed). h .heading) (c .before .before .before .heading-of .ensures) ∙ fields-are f e in
+    let w : c .piece-of .result .heading ≡ headingFields f = ap (λ (x : Piece). x .heading) (c .piece-of .ensures) ∙ ap (λ (h : Headed). h .heading) (c .before .before .before .heading-of .ensures) ∙ fields-are f e in
     let b = bounds f e in
     rw w (omega (arith, b .number-below, b .total-high))
 

@@ -29,8 +29,8 @@ mul-p c = search needs
 element-copy-out-p : tie.Need-element-copy-out-p
 element-copy-out-p c = search needs
 
-freed-requires : tie.Need-freed-requires
-freed-requires c κs = search needs
+make-free-requires : tie.Need-make-free-requires
+make-free-requires c κs = search needs
 
 mul-t12 : tie.Need-mul-t12
 mul-t12 c = search needs
@@ -43,7 +43,7 @@ returns-2 c =
     let d = c .before .before .before .before .before .before .args .t1 in
     let n : length (d .places) ≡ 4 = search (needs, length-mapped) in
     let e = c .before .before .before .index-of .ensures in
-    ap (λ (q : Place). record { answer = 0; collector = put d (c .before .before .before .index-of .result) q }) (c .freed .ensures)
+    ap (λ (q : Place). record { answer = 0; collector = put d (c .before .before .before .index-of .result) q }) (c .make-free .ensures)
     ∙ ap (λ (k : ℕ). record { answer = 0; collector = put d k (freed (getD (d .places) k blank)) }) e
     ∙ release-0 d _ _ (sym (c .before .before .before .before .before .is-good .ensures) ∙ not-false _ (c .before .before .before .before .if1 .left)) (is-held (d .places) _ _ (omega (arith, e, c .before .before .if2 .taken)))
 
@@ -62,7 +62,7 @@ release-spec =
     index-of-requires
     mul-p
     element-copy-out-p
-    freed-requires
+    make-free-requires
     mul-t12
     element-set-from-c
     returns-2

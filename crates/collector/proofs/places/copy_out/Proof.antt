@@ -21,7 +21,7 @@ slice-aggregate-packet-size : tie.Need-slice-aggregate-packet-size
 slice-aggregate-packet-size c = search needs
 
 packet-size-requires : tie.Need-packet-size-requires
-packet-size-requires c κs = let n : length (c .before .before .before .before .before .args .p .bytes) ≡ 252 = search needs in omega arith
+packet-size-requires c κs = search needs
 
 returns-2 : tie.Need-returns-2
 returns-2 c =

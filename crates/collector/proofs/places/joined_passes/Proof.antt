@@ -15,37 +15,37 @@ cast-n c = search needs
 mul-n : tie.Need-mul-n
 mul-n c = search needs
 
-sub-passes : tie.Need-sub-passes
-sub-passes c = search needs
+sub-is-whole : tie.Need-sub-is-whole
+sub-is-whole c = search needs
 
-part-passes-start : tie.Need-part-passes-start
-part-passes-start c = search needs
+part-is-whole-start : tie.Need-part-is-whole-start
+part-is-whole-start c = search needs
 
-part-passes-end : tie.Need-part-passes-end
-part-passes-end c =
+part-is-whole-end : tie.Need-part-is-whole-end
+part-is-whole-end c =
     let n : length (c .before .before .before .before .args .p .bytes) ≡ 252 = search needs in
     omega (arith, c .before .if1 .taken)
 
-passes-requires : tie.Need-passes-requires
-passes-requires c κs = search needs
+is-whole-requires : tie.Need-is-whole-requires
+is-whole-requires c κs = search needs
 
-slice-aggregate-passes : tie.Need-slice-aggregate-passes
-slice-aggregate-passes c = search needs
+slice-aggregate-is-whole : tie.Need-slice-aggregate-is-whole
+slice-aggregate-is-whole c = search needs
 
-passes-requires-2 : tie.Need-passes-requires-2
-passes-requires-2 c κs = search needs
+is-whole-requires-2 : tie.Need-is-whole-requires-2
+is-whole-requires-2 c κs = search needs
 
 returns : tie.Need-returns
 returns c =
     let n = c .before .before .before .before .before .before .args .p .total .0 * 4 in
     let e : n - 0 ≡ n = omega arith in
-    c .passes .ensures ∙ ap (λ (k : ℕ). passes (take k (c .before .before .before .before .before .before .args .p .bytes))) e
+    c .is-whole .ensures ∙ ap (λ (k : ℕ). passes (take k (c .before .before .before .before .before .before .args .p .bytes))) e
 
 returns-2 : tie.Need-returns-2
 returns-2 c =
     let xs = c .before .before .before .before .before .args .p .bytes in
     let n : length xs ≡ 252 = search needs in
-    c .passes2 .ensures ∙ ap passes (sym (take-all (c .before .before .before .before .before .args .p .total .0 * 4) xs (omega (arith, c .before .before .if1 .left))))
+    c .is-whole2 .ensures ∙ ap passes (sym (take-all (c .before .before .before .before .before .args .p .total .0 * 4) xs (omega (arith, c .before .before .if1 .left))))
 
 pub joined-passes-spec : {M : Type 1} → statement M
 joined-passes-spec =
@@ -53,11 +53,11 @@ joined-passes-spec =
     (tie.spec
     cast-n
     mul-n
-    sub-passes
-    part-passes-start
-    part-passes-end
-    passes-requires
-    slice-aggregate-passes
-    passes-requires-2
+    sub-is-whole
+    part-is-whole-start
+    part-is-whole-end
+    is-whole-requires
+    slice-aggregate-is-whole
+    is-whole-requires-2
     returns
     returns-2)

@@ -1,11 +1,11 @@
 -- `collector::places::take` meets its contract. Assumes nothing.
 use mathlib.Core.Path.{refl}
-use Rattle.collector.specs.Places.{taken}
+use Rattle.collector.specs.Places.{takenFor}
 use Rattle.collector.proofs.places.take.Statement.{statement}
 use Rattle.collector.proofs.places.take.Tie as tie
 
 returns : tie.Need-returns
-unfolding taken
+unfolding takenFor
 returns c = refl
 
 pub take-spec : {M : Type 1} → statement M

@@ -1,9 +1,7 @@
 -- `reader::tests::size_bad` meets its contract. Assumes nothing.
-use mathlib.Core.Path.{sym, ap, _∙_}
-use Prim.Native.Nat.{ℕ, _+_}
+use mathlib.Core.Path.{sym, _∙_}
 use denote.Ref.{now}
-use native.Mathlib.Omega.{arith}
-use Rattle.laws.proofs.Bits.{at-small}
+use Rattle.size.specs.Size.{packetSize}
 use Rattle.reader.proofs.Whole as whole
 use borrow.Author.Needs.{needs}
 use Rattle.reader.proofs.tests.size_bad.Statement.{statement}
@@ -15,17 +13,12 @@ returns c = whole.short (now (c .before .before .args .b)) (c .if1 .taken)
 returns-2 : tie.Need-returns-2
 returns-2 c = whole.long (now (c .before .before .before .args .b)) (c .before .if1 .left) (c .if2 .taken)
 
-medium-requires : tie.Need-medium-requires
-medium-requires c κs = search needs
-
-cast-l : tie.Need-cast-l
-cast-l c = omega (arith, c .medium .ensures, at-small (now (c .before .before .before .before .args .b)) 5 11 11 (omega arith))
-
-add-if3 : tie.Need-add-if3
-add-if3 c = omega (arith, c .medium .ensures, at-small (now (c .before .before .before .before .args .b)) 5 11 11 (omega arith))
+packet-size-requires : tie.Need-packet-size-requires
+packet-size-requires c κs = search needs
 
 returns-3 : tie.Need-returns-3
-returns-3 c = whole.other (now (c .before .before .before .before .before .args .b)) (c .before .before .before .if1 .left) (c .before .before .if2 .left) (λ e. c .if3 .taken (e ∙ ap (λ (n : ℕ). n + 2) (sym (c .before .medium .ensures))))
+unfolding packetSize
+returns-3 c = whole.other (now (c .before .before .before .before .before .args .b)) (c .before .before .before .if1 .left) (c .before .before .if2 .left) (λ e. c .if3 .taken (e ∙ sym (c .before .packet-size .ensures)))
 
 codes-count-requires : tie.Need-codes-count-requires
 codes-count-requires c κs = search needs
@@ -37,9 +30,10 @@ add-result : tie.Need-add-result
 add-result c = search needs
 
 returns-4 : tie.Need-returns-4
+unfolding packetSize
 returns-4 c =
     let b = now (c .before .before .before .before .before .before .args .b) in
-    rw (c .codes-count .ensures .0) (whole.few b (c .before .before .before .before .if1 .left) (c .before .before .before .if2 .left) (c .before .if3 .left ∙ ap (λ (n : ℕ). n + 2) (c .before .before .medium .ensures)))
+    rw (c .codes-count .ensures .0) (whole.few b (c .before .before .before .before .if1 .left) (c .before .before .before .if2 .left) (c .before .if3 .left ∙ c .before .before .packet-size .ensures))
 
 pub size-bad-spec : {M : Type 1} → statement M
 size-bad-spec =
@@ -47,9 +41,7 @@ size-bad-spec =
     (tie.spec
     returns
     returns-2
-    medium-requires
-    cast-l
-    add-if3
+    packet-size-requires
     returns-3
     codes-count-requires
     mul-result

@@ -1,30 +1,28 @@
--- `collector::whole::passes` meets its contract. Assumes nothing.
-use Rattle.collector.proofs.Joined.{fill-is, size-least, size-most, check-is, too-short, too-long, other-check, by-fill}
+-- `collector::whole::is_whole` meets its contract. Assumes nothing.
+use Rattle.size.proofs.Size.{size-most}
+use Rattle.collector.proofs.Joined.{fill-is, check-is, too-short, too-long, other-check, by-fill}
 use mathlib.Core.Path.{sym, _∙_}
 use Prim.Native.Nat.{_+_}
 use native.Mathlib.Omega.{arith}
 use borrow.Author.Tests.{eq-eqb, ne-eqb}
 use borrow.Author.Needs.{needs}
-use Rattle.collector.proofs.whole.passes.Statement.{statement}
-use Rattle.collector.proofs.whole.passes.Tie as tie
-
-returns : tie.Need-returns
-returns c = sym (too-short _ (omega (arith, c .if1 .taken, size-least (c .before .before .args .b .now))))
+use Rattle.collector.proofs.whole.is_whole.Statement.{statement}
+use Rattle.collector.proofs.whole.is_whole.Tie as tie
 
 packet-size-requires : tie.Need-packet-size-requires
 packet-size-requires c κs = search needs
 
+add-if1 : tie.Need-add-if1
+add-if1 c = omega (arith, c .packet-size .ensures, size-most (c .before .before .args .b .now))
+
+returns : tie.Need-returns
+returns c = sym (too-short _ (omega (arith, c .if1 .taken, c .before .packet-size .ensures)))
+
 add-if2 : tie.Need-add-if2
-add-if2 c = omega (arith, c .packet-size .ensures, size-most (c .before .before .before .args .b .now))
+add-if2 c = search needs
 
 returns-2 : tie.Need-returns-2
-returns-2 c = sym (too-short _ (omega (arith, c .if2 .taken, c .before .packet-size .ensures)))
-
-add-if3 : tie.Need-add-if3
-add-if3 c = search needs
-
-returns-3 : tie.Need-returns-3
-returns-3 c = sym (too-long _ (omega (arith, c .if3 .taken, c .before .before .packet-size .ensures)))
+returns-2 c = sym (too-long _ (omega (arith, c .if2 .taken, c .before .before .packet-size .ensures)))
 
 shared-slice-read-wide : tie.Need-shared-slice-read-wide
 shared-slice-read-wide c = search needs
@@ -59,11 +57,11 @@ part-packet-check-end c = search needs
 packet-check-requires : tie.Need-packet-check-requires
 packet-check-requires c κs = search needs
 
-returns-4 : tie.Need-returns-4
-returns-4 c =
-    let b = c .before .before .before .before .before .before .before .before .before .before .before .before .args .b .now in
+returns-3 : tie.Need-returns-3
+returns-3 c =
+    let b = c .before .before .before .before .before .before .before .before .before .before .before .args .b .now in
     let e = c .before .before .before .before .before .before .before .before .before .packet-size .ensures in
-    sym (other-check b (omega (arith, e, c .before .before .before .before .before .before .before .before .if2 .left)) (omega (arith, e, c .before .before .before .before .before .before .before .if3 .left)) (check-is b _ _ _ _ e (c .before .packet-check .ensures) (c .before .before .before .before .before .wide .ensures) (c .before .before .before .wide2 .ensures) ∙ ne-eqb _ _ (c .if4 .taken)))
+    sym (other-check b (omega (arith, e, c .before .before .before .before .before .before .before .before .if1 .left)) (omega (arith, e, c .before .before .before .before .before .before .before .if2 .left)) (check-is b _ _ _ _ e (c .before .packet-check .ensures) (c .before .before .before .before .before .wide .ensures) (c .before .before .before .wide2 .ensures) ∙ ne-eqb _ _ (c .if3 .taken)))
 
 add-all-fill : tie.Need-add-all-fill
 add-all-fill c = search needs
@@ -80,22 +78,21 @@ part-all-fill-end c = search needs
 all-fill-requires : tie.Need-all-fill-requires
 all-fill-requires c κs = search needs
 
-returns-5 : tie.Need-returns-5
-returns-5 c =
-    let b = c .before .before .before .before .before .before .before .before .before .before .before .before .before .before .args .b .now in
+returns-4 : tie.Need-returns-4
+returns-4 c =
+    let b = c .before .before .before .before .before .before .before .before .before .before .before .before .before .args .b .now in
     let e = c .before .before .before .before .before .before .before .before .before .before .before .packet-size .ensures in
-    c .all-fill .ensures ∙ fill-is b _ e ∙ sym (by-fill b (omega (arith, e, c .before .before .before .before .before .before .before .before .before .before .if2 .left)) (omega (arith, e, c .before .before .before .before .before .before .before .before .before .if3 .left)) (check-is b _ _ _ _ e (c .before .before .before .packet-check .ensures) (c .before .before .before .before .before .before .before .wide .ensures) (c .before .before .before .before .before .wide2 .ensures) ∙ eq-eqb _ _ (c .before .before .if4 .left)))
+    c .all-fill .ensures ∙ fill-is b _ e ∙ sym (by-fill b (omega (arith, e, c .before .before .before .before .before .before .before .before .before .before .if1 .left)) (omega (arith, e, c .before .before .before .before .before .before .before .before .before .if2 .left)) (check-is b _ _ _ _ e (c .before .before .before .packet-check .ensures) (c .before .before .before .before .before .before .before .wide .ensures) (c .before .before .before .before .before .wide2 .ensures) ∙ eq-eqb _ _ (c .before .before .if3 .left)))
 
-pub passes-spec : {M : Type 1} → statement M
-passes-spec =
+pub is-whole-spec : {M : Type 1} → statement M
+is-whole-spec =
     tie.close
     (tie.spec
-    returns
     packet-size-requires
+    add-if1
+    returns
     add-if2
     returns-2
-    add-if3
-    returns-3
     shared-slice-read-wide
     wide-requires
     mul-check
@@ -107,10 +104,10 @@ passes-spec =
     part-packet-check-start
     part-packet-check-end
     packet-check-requires
-    returns-4
+    returns-3
     add-all-fill
     sub-all-fill
     part-all-fill-start
     part-all-fill-end
     all-fill-requires
-    returns-5)
+    returns-4)
