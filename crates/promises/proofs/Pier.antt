@@ -1,6 +1,7 @@
--- Every pier example marked P holds, by computation. Assumes nothing.
+-- Every pier example marked P holds, by computation, whatever room is lent. Assumes nothing.
 use mathlib.Core.Path.{_≡_, refl}
 use mathlib.Core.Bool.{true}
+use Prim.Native.Nat.{ℕ}
 use Rattle.laws.specs.Bits.{at, bitsOf, run, spread}
 use Rattle.laws.specs.Poly.{reduce, remainder}
 use Rattle.laws.specs.Refusals.{first}
@@ -11,9 +12,9 @@ use Rattle.air.specs.OnAir.{framesFor}
 use Rattle.format.specs.Format.{times, size, need, encode, fill, inside, fine}
 use Rattle.packet.specs.Table.{formOf, contentLines, packet}
 use Rattle.packet.specs.Content.{leap, daysIn}
-use Rattle.packet.specs.Writing.{frontFor, backFor, bodyFor, sizeFor, tableFor, numbersFor, bytesFor, countBad, digitBad, notTaken, writtenAnswer}
+use Rattle.packet.specs.Writing.{frontFor, backFor, bodyFor, sizeFor, tableFor, numbersFor, bytesFor, countBad, digitBad, notTaken, writtenAnswer, written, packetOutput}
 use Rattle.promises.specs.Pier.{holds, examples}
 
-pub pier : all holds examples ≡ true
-unfolding all holds examples checkWord syndrome remainder reduce at bitsOf run spread first fixed reserved outside refusals fieldsOf headingOf headingBits headingWords headingBytes framesFor times size need encode fill inside fine formOf contentLines packet leap daysIn frontFor backFor bodyFor sizeFor tableFor numbersFor bytesFor countBad digitBad notTaken writtenAnswer
-pier = refl
+pub pier : (room : ℕ) → all (holds room) examples ≡ true
+unfolding all holds examples checkWord syndrome remainder reduce at bitsOf run spread first fixed reserved outside refusals fieldsOf headingOf headingBits headingWords headingBytes framesFor times size need encode fill inside fine formOf contentLines packet leap daysIn frontFor backFor bodyFor sizeFor tableFor numbersFor bytesFor countBad digitBad notTaken writtenAnswer written packetOutput
+pier room = refl

@@ -1,7 +1,7 @@
 -- The ranges of a content's numbers, one by one: what answer 27 asks of the first lines of its row.
 use mathlib.Core.Bool.{Bool, true, false, not, _&&_, _||_}
 use mathlib.Core.List.{List}
-use Prim.Native.Nat.{ℕ, _+_, _*_}
+use Prim.Native.Nat.{ℕ, _*_}
 use lib.Dec.{leb, eqb}
 use Rattle.format.specs.Format.{fine, fill, times}
 use Rattle.packet.specs.declared.Sort.{Sort}
@@ -9,8 +9,10 @@ use Rattle.packet.specs.declared.Sort.the-variants as sort
 use Rattle.packet.specs.declared.Content.{Content}
 use Rattle.packet.specs.declared.Content.the-variants as content
 use Rattle.packet.specs.declared.Fields.{Fields}
-use Rattle.packet.specs.Content.{countFor}
+use Rattle.packet.specs.Table.{contentBytes}
+use Rattle.packet.specs.Content.{formFor, countFor}
 use Rattle.packet.specs.Writing.{rowFor, bodyFor, otherType, bodyLost, digitsLost}
+use Rattle.writer.specs.Puts.{countOf}
 
 -- lo to hi (01, Numbers given back, 27)
 abbrev pub within : ℕ → ℕ → ℕ → Bool
@@ -60,19 +62,9 @@ badOf (content.Text kind set t) lent = rowsBad t 1 lent
 badOf (content.Command k) lent = rowsBad k 1 lent
 badOf (content.Hold serial) lent = false
 
--- the bytes of a content, by the column of paper 01's table
+-- the bytes of a content, by the column of paper 01's table, where so many numbers are lent
 abbrev pub bytesOf : Content → ℕ → ℕ
-bytesOf content.Raw lent = lent
-bytesOf (content.Frequencies k) lent = 1 + 5 * k
-bytesOf (content.Address m) lent = 13 + m
-bytesOf (content.Keep on period) lent = 3
-bytesOf (content.Clock year month day hour minute second) lent = 7
-bytesOf (content.Reset change) lent = 4
-bytesOf content.Factory lent = 1
-bytesOf (content.Drill action) lent = 19
-bytesOf (content.Text kind set t) lent = 20 + t
-bytesOf (content.Command k) lent = 1 + k
-bytesOf (content.Hold serial) lent = 2
+bytesOf c lent = contentBytes (formFor c) (countOf c lent)
 
 -- ---- answer 27, in two parts: what could not be handed back, and what is repeated (01, Numbers given back)
 unfoldable pub somethingLost : Fields → List ℕ → Bool
