@@ -1,4 +1,4 @@
--- The ranges of a content's numbers, one by one: what answer 27 asks of the first lines of its row.
+-- The ranges of a content's numbers, one by one: what answer 27 asks of the first lines of its row (01, Packet).
 use mathlib.Core.Bool.{Bool, true, false, not, _&&_, _||_}
 use mathlib.Core.List.{List}
 use Prim.Native.Nat.{ℕ, _*_}
@@ -23,7 +23,7 @@ abbrev pub clockFine : ℕ → ℕ → ℕ → ℕ → ℕ → Bool
 clockFine month day hour minute second =
     within month 1 12 && (within day 1 31 && (within hour 0 23 && (within minute 0 59 && within second 0 59)))
 
--- those of any content (01, Packet)
+-- those of any content
 abbrev pub rangeFine : Content → Bool
 rangeFine content.Raw = true
 rangeFine (content.Frequencies k) = true
@@ -44,11 +44,11 @@ lostOf sort.Counted lent = false
 lostOf sort.Raw lent = false
 lostOf sort.Unknown lent = false
 
--- rows of w numbers (01, Numbers given back)
+-- rows of w numbers
 abbrev pub rowsBad : ℕ → ℕ → ℕ → Bool
 rowsBad k w lent = not (leb k 255 && eqb lent (k * w))
 
--- 26 for a count that is not that of what is lent (01, Numbers given back)
+-- 26 for a count that is not that of what is lent
 abbrev pub badOf : Content → ℕ → Bool
 badOf content.Raw lent = false
 badOf (content.Frequencies k) lent = rowsBad k 8 lent
@@ -71,6 +71,6 @@ unfoldable pub somethingLost : Fields → List ℕ → Bool
 somethingLost f body =
     otherType f || (bodyLost (rowFor (f .content) .sort) body || (digitsLost (f .content) (f .digits) || (eqb (f .kind) 1 && not (eqb (f .codes) 0))))
 
--- no line of what is repeated is due the answer a (01, Numbers given back)
+-- no line of what is repeated is due the answer a
 abbrev pub rowsFine : ℕ → Content → List ℕ → Bool
 rowsFine a c body = fine a (times (countFor c body) (rowFor c .each)) (fill (times (countFor c body) (rowFor c .each)) (bodyFor c body))
