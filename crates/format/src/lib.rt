@@ -5,7 +5,7 @@ ghost use lib.ListN.{length, getD, set};
 ghost use lib.Seq.{sets};
 ghost use Rattle.laws.specs.Bits.{at, bitsOf, run, spread, bits};
 ghost use Rattle.format.specs.Format.{inside};
-ghost use Rattle.format.specs.Reach.{reach, partOf, fieldOf, fieldsOf, inRange, fieldBits, fieldsBits};
+ghost use Rattle.format.specs.Reach.{reach, partOf, fieldRead, fieldsRead, inRange, fieldBits, fieldsBits};
 
 // A line: n numbers of w bits, each lo to hi; other is what a reader answers where one is not.
 // A line that is not free has no numbers of its own: each of its numbers is lo.
@@ -77,7 +77,7 @@ fn read_field(b: &[u8], p: usize, w: usize) -> u32
 
 // The number of w bits from bit p on.
 pub fn field(b: &[u8], p: usize, w: usize) -> u32
-    ensures { λ r. ⌜ r ≡ fieldOf (bits (now (b .entry))) p w ⌝ }
+    ensures { λ r. ⌜ r ≡ fieldRead (bits (now (b .entry))) p w ⌝ }
 {
     if reaches(p, 1, w) {
         read_field(b, p, w)
@@ -117,7 +117,7 @@ fn read_fields(b: &[u8], p: usize, n: usize, w: usize, out: &mut [u8], to: usize
 
 // n numbers of w bits, at most 8, from bit p on, to out from to on.
 pub fn fields(b: &[u8], p: usize, n: usize, w: usize, out: &mut [u8], to: usize)
-    ensures { λ _. ⌜ now (out .exit) ≡ sets (now (out .entry)) to (fieldsOf (bits (now (b .entry))) p n w to) ⌝ }
+    ensures { λ _. ⌜ now (out .exit) ≡ sets (now (out .entry)) to (fieldsRead (bits (now (b .entry))) p n w to) ⌝ }
 {
     if reaches(p, n, w) {
         if w <= 8 {

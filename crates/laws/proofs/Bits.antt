@@ -8,10 +8,7 @@ use native.Mathlib.Decide.{decLt}
 use lib.ListN.{length, getD, take, drop, length-append, length-drop, List·getD-append}
 use lib.Seq.{take-all, getD-append-add, getD-at, getD-drop, take-suc, take-add, drop-drop}
 use Rattle.laws.specs.Bits.{at, bitsOf, run, spread, bits, bytes}
-
--- each element is below k
-abbrev pub Under : ℕ → List ℕ → Type 0
-Under k l = (i : ℕ) → getD l i 0 < k
+pub use Rattle.laws.specs.Bits.{Under}
 
 -- ---- a number
 pub length-bitsOf : (w x : ℕ) → length (bitsOf w x) ≡ w

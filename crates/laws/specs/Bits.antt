@@ -1,5 +1,5 @@
 -- Numbers as bits and bits as numbers, the highest bit first (000, 4.1: uimsbf). A bit is the number 0 or 1.
-use Prim.Native.Nat.{ℕ, zero, suc, _+_, _*_, _/_, _%_}
+use Prim.Native.Nat.{ℕ, zero, suc, _+_, _*_, _/_, _%_, _<_}
 use mathlib.Core.List.{List, [], _∷_, _++_}
 use lib.ListN.{length, getD}
 
@@ -30,3 +30,7 @@ bits b = spread 8 b
 -- the bytes of bits, eight to a byte; what is left over is none (000, 4.1)
 abbrev pub bytes : List ℕ → List ℕ
 bytes l = run l 0 (length l / 8) 8
+
+-- each element is below k: below 2 of bits, below 256 of bytes (ours: what the types give)
+abbrev pub Under : ℕ → List ℕ → Type 0
+Under k l = (i : ℕ) → getD l i 0 < k

@@ -1,13 +1,18 @@
--- The kinds of the types that no single key names, and that a kind's type has that kind. Assumes nothing.
-use mathlib.Core.Bool.{Bool, true, false, not}
+-- The kinds of the types that no single key names, that a kind's type has that kind, and which types have none. Assumes nothing.
+use mathlib.Core.Bool.{Bool, true, false, not, _&&_}
 use mathlib.Core.Path.{_≡_, refl, ap, _∙_, sym}
 use Prim.Native.Nat.{ℕ, _<_, _≤_}
 use native.Mathlib.Omega.{arith}
-use borrow.Author.Tests.{le-leb, lt-leb, ne-eqb, ltb-true, ltb-false}
+use native.Mathlib.Decide.{decLt}
+use borrow.Author.Tests.{le-leb, lt-leb, ne-eqb, ltb-true, ltb-false, not-true}
+use Rattle.laws.specs.Below.{below}
+use Rattle.laws.proofs.Below.{at-each}
+use Rattle.laws.proofs.Cases.{or-no}
 use lib.Dec.{leb, ltb}
 use Rattle.packet.specs.declared.Form.{Form}
 use Rattle.packet.specs.declared.Form.the-variants.{Frequencies, Address, Keep, Clock, Reset, Factory, Drill, Text, Command, Hold, Raw, Unknown}
-use Rattle.packet.specs.Table.{formOf, typeOf}
+use Rattle.packet.specs.Table.{formOf, typeOf, refusedType}
+use Rattle.packet.specs.Reading.{isUnknown}
 
 -- the types that are opened, each by its key
 pub record Other (t : ℕ) : Type 0 where
@@ -72,3 +77,28 @@ below-not a b = go (ltb a b) refl
     go : (t : Bool) → ltb a b ≡ t → ltb a b ≡ not (leb b a)
     go true e = e ∙ sym (ap not (lt-leb b a (ltb-true a b e)))
     go false e = e ∙ sym (ap not (le-leb b a (ltb-false a b e)))
+
+-- The kind that is answered 23 is that of types 9, 10, 17 to 20 and 25 or above, and of no other.
+pub refused-types : (t : ℕ) → isUnknown (formOf t) ≡ refusedType t
+unfolding below formOf
+refused-types t =
+    elim (decLt t 25) [
+      | yes h ↦ same (isUnknown (formOf t)) (refusedType t) (at-each 25 (λ (n : ℕ). agree (isUnknown (formOf n)) (refusedType n)) refl t h)
+      | no h ↦ ap isUnknown (sym (above t (other-above t (omega arith)) (omega arith))) ∙ sym (or-no _ (ne-eqb t 9 (λ e. omega arith)) ∙ or-no _ (ne-eqb t 10 (λ e. omega arith)) ∙ or-no _ (and-late (leb 17 t) (lt-leb t 20 (omega arith))) ∙ le-leb 25 t (omega arith))
+    ]
+  where
+    agree : Bool → Bool → Bool
+    agree true y = y
+    agree false y = not y
+
+    same : (x y : Bool) → agree x y ≡ true → x ≡ y
+    same true y e = sym e
+    same false y e = sym (not-true y e)
+
+    and-late : (x : Bool) {y : Bool} → y ≡ false → (x && y) ≡ false
+    and-late true e = e
+    and-late false e = refl
+
+    other-above : (t : ℕ) → 25 ≤ t → Other t
+    other-above t h =
+        record { n0 = λ e. omega arith; n1 = λ e. omega arith; n2 = λ e. omega arith; n3 = λ e. omega arith; n12 = λ e. omega arith; n13 = λ e. omega arith; n14 = λ e. omega arith; n15 = λ e. omega arith; n16 = λ e. omega arith; n21 = λ e. omega arith; n11 = λ e. omega arith }

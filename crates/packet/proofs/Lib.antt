@@ -1,3 +1,4 @@
 pub mod Forms
 pub mod Sizes
 pub mod Refused
+pub mod Accepted

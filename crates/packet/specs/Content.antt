@@ -9,7 +9,7 @@ use Rattle.packet.specs.declared.Form.the-variants.{Frequencies, Address
 use Rattle.packet.specs.declared.Content.{Content}
 use Rattle.packet.specs.declared.Content.the-variants as content
 
--- the content of a kind, from the numbers that stand before its count, and its count (01, Packet)
+-- the content of a kind, from the numbers that stand before its count, and its count
 abbrev pub contentOf : Form → List ℕ → ℕ → Content
 contentOf Frequencies xs k = content.Frequencies k
 contentOf Address xs k = content.Address k
@@ -24,7 +24,7 @@ contentOf Hold xs k = content.Hold (getD xs 0 0)
 contentOf Raw xs k = content.Raw
 contentOf Unknown xs k = content.Raw
 
--- its kind (01, Packet)
+-- its kind
 abbrev pub formFor : Content → Form
 formFor content.Raw = Raw
 formFor (content.Frequencies k) = Frequencies
@@ -38,7 +38,7 @@ formFor (content.Text kind set t) = Text
 formFor (content.Command k) = Command
 formFor (content.Hold serial) = Hold
 
--- its numbers (01, Packet)
+-- its numbers
 abbrev pub numbersOf : Content → List ℕ
 numbersOf content.Raw = []
 numbersOf (content.Frequencies k) = []
@@ -52,7 +52,7 @@ numbersOf (content.Text kind set t) = kind ∷ set ∷ []
 numbersOf (content.Command k) = []
 numbersOf (content.Hold serial) = serial ∷ []
 
--- how many numbers a kind has; the digits stand after them (01, Packet)
+-- how many numbers a kind has; the digits stand after them
 abbrev pub numbersIn : Form → ℕ
 numbersIn Frequencies = 0
 numbersIn Address = 0
@@ -67,7 +67,7 @@ numbersIn Hold = 1
 numbersIn Raw = 0
 numbersIn Unknown = 0
 
--- its count: k, m or t; a raw content has none of its own, and is as long as what is lent (01, Packet)
+-- its count: k, m or t; a raw content has none of its own, and is as long as what is lent
 abbrev pub countFor : Content → List ℕ → ℕ
 countFor content.Raw body = length body
 countFor (content.Frequencies k) body = k
@@ -92,7 +92,7 @@ daysIn year month =
     (cond (eqb month 4 || (eqb month 6 || (eqb month 9 || eqb month 11))) 30
     31)
 
--- no such day (01, Packet)
+-- no such day
 abbrev pub noSuchDay : Content → Bool
 noSuchDay content.Raw = false
 noSuchDay (content.Frequencies k) = false

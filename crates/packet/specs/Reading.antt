@@ -15,18 +15,18 @@ use Rattle.packet.specs.declared.Content.{Content}
 use Rattle.packet.specs.declared.Content.the-variants as content
 use Rattle.packet.specs.declared.Fields.{Fields}
 use Rattle.packet.specs.declared.Opened.{Opened}
-use Rattle.packet.specs.Table.{formOf, typeOf, Row, rowOf, countLine, contentLines, code, packet, countIn}
+use Rattle.packet.specs.Table.{formOf, typeOf, contentBytes, Row, rowOf, countLine, code, packet, countIn}
 use Rattle.packet.specs.Content.{contentOf, numbersIn, noSuchDay}
 
 -- ---- the heading (000, table 1): type, length field, count of codes
 abbrev pub kindIn : List ℕ → ℕ
 kindIn b = at (bits b) 0 5
 
--- L, all bytes but the first two (01, Packet)
+-- L, all bytes but the first two
 abbrev pub lengthIn : List ℕ → ℕ
 lengthIn b = lengthField b
 
--- n (01, Packet)
+-- n
 abbrev pub codesIn : List ℕ → ℕ
 codesIn b = at (bits b) 16 8
 
@@ -38,11 +38,11 @@ formIn b = formOf (kindIn b)
 abbrev pub contentAt : List ℕ → ℕ
 contentAt b = 24 + 96 * codesIn b
 
--- P - 77 - 12n bytes (01, Packet)
+-- P - 77 - 12n bytes
 abbrev pub contentSize : List ℕ → ℕ
 contentSize b = length b - 77 - 12 * codesIn b
 
--- k, m or t; all bytes of a raw content (01, Packet)
+-- k, m or t; all bytes of a raw content
 unfoldable pub countOf : List ℕ → ℕ
 countOf b = countIn (rowOf (formIn b)) (bits b) (contentAt b) (contentSize b)
 
@@ -50,28 +50,28 @@ countOf b = countIn (rowOf (formIn b)) (bits b) (contentAt b) (contentSize b)
 unfoldable pub tableOf : List ℕ → List Line
 tableOf b = packet (rowOf (formIn b)) (kindIn b) (length b) (codesIn b) (countOf b)
 
--- a list of numbers for each line (01, Packet)
+-- a list of numbers for each line
 abbrev pub valuesIn : List ℕ → List (List ℕ)
 valuesIn b = decode (tableOf b) (bits b) 0
 
--- ---- the numbers of the content's three parts
--- what is repeated begins so many bits into the content: after the first lines and the count (our table language)
+-- ---- the numbers of the content's three parts (01, Packet)
+-- what is repeated begins so many bits into the content: after the first lines and the count
 unfoldable pub partAt : Row → ℕ
 partAt r = size (r .before) + size (countLine (r .sort) 0)
 
--- those of the lines ts that begin at place p (our table language)
+-- those of the lines ts that begin at place p
 abbrev pub numbersAt : List Line → List ℕ → ℕ → List ℕ
 numbersAt ts b p = flat ts (decode ts (bits b) p)
 
--- those before what is repeated (01, Packet)
+-- those before what is repeated
 unfoldable pub frontIn : List ℕ → List ℕ
 frontIn b = numbersAt (rowOf (formIn b) .before) b (contentAt b)
 
--- those that are repeated (01, Packet)
+-- those that are repeated
 unfoldable pub bodyIn : List ℕ → List ℕ
 bodyIn b = numbersAt (times (countOf b) (rowOf (formIn b) .each)) b (contentAt b + partAt (rowOf (formIn b)))
 
--- those behind (01, Packet)
+-- those behind
 unfoldable pub backIn : List ℕ → List ℕ
 backIn b =
     numbersAt (rowOf (formIn b) .after) b
@@ -81,23 +81,23 @@ backIn b =
 abbrev pub contentIn : List ℕ → Content
 contentIn b = contentOf (formIn b) (frontIn b) (countOf b)
 
--- the digits beside the content: what stands after its numbers, and after its bytes (01, Packet)
+-- the digits beside the content: what stands after its numbers, and after its bytes
 abbrev pub digitsIn : List ℕ → List ℕ
 digitsIn b = drop (numbersIn (formIn b)) (frontIn b) ++ backIn b
 
--- n zeros (01, Numbers given back)
+-- n zeros
 unfoldable pub zeros : ℕ → List ℕ
 zeros n = replicate n 0
 
--- xs, then zeros up to n in all (01, Numbers given back)
+-- xs, then zeros up to n in all
 abbrev pub padded : ℕ → List ℕ → List ℕ
 padded n xs = sets (zeros n) 0 xs
 
--- the digits of the codes, 23 a code (01, Packet)
+-- the digits of the codes, 23 a code
 unfoldable pub codesOf : List ℕ → List ℕ
 codesOf b = numbersAt (times (codesIn b) code) b 24
 
--- frequencies have entries, and the others bytes (01, Packet)
+-- frequencies have entries, and the others bytes
 abbrev pub hasEntries : Form → Bool
 hasEntries f = eqb (typeOf f) 0
 
@@ -114,24 +114,24 @@ fieldsOf b =
       signature = run (bits b) (8 * (length b - 64)) 64 8;
     }
 
--- ---- the answer, in the order of paper 01
+-- ---- the answer, in the order of paper 01 (Numbers given back, Reader)
 -- 20: not 77 to 250 bytes, or not the length field and 2, or under 77 and 12 a code
 unfoldable pub sizeBad : List ℕ → Bool
 sizeBad b = not ((leb 77 (length b) && leb (length b) 250) && (eqb (length b) (lengthIn b + 2) && leb (77 + 12 * codesIn b) (length b)))
 
--- 26: the content's lines are not as long as the content (01, Numbers given back)
+-- 26: the content has not the bytes of the column, for its kind and its count
 unfoldable pub lengthBad : List ℕ → Bool
-lengthBad b = not (eqb (size (contentLines (rowOf (formIn b)) (countOf b))) (8 * contentSize b))
+lengthBad b = not (eqb (contentBytes (formIn b) (countOf b)) (contentSize b))
 
--- 23: a type that is neither opened nor carried (01, Numbers given back)
+-- 23: a type that is neither opened nor carried
 abbrev pub isUnknown : Form → Bool
 isUnknown f = eqb (typeOf f) 31
 
--- 27: a field outside its range, or no such day (01, Numbers given back)
+-- 27: a field outside its range, or no such day
 abbrev pub fieldBad : List ℕ → Bool
 fieldBad b = not (fine 27 (tableOf b) (valuesIn b)) || noSuchDay (contentIn b)
 
--- the cases before a field's; x is what is answered 27 (01, Numbers given back)
+-- the cases before a field's; x is what is answered 27
 abbrev pub casesThen : List ℕ → Bool → List Case
 casesThen b x =
     (sizeBad b, 20)
@@ -142,11 +142,11 @@ casesThen b x =
     ∷ (x, 27)
     ∷ []
 
--- the reader's cases (01, Numbers given back)
+-- the reader's cases
 abbrev pub readCases : List ℕ → List Case
 readCases b = casesThen b (fieldBad b)
 
--- its number (01, Numbers given back)
+-- its number
 unfoldable pub readAnswer : List ℕ → ℕ
 readAnswer b = first (readCases b)
 
@@ -155,11 +155,11 @@ unfoldable pub noFields : Fields
 noFields =
     record { kind = 0; codes = 0; content = content.Raw; digits = zeros 35; time = 0; certificate = zeros 12; signature = zeros 64 }
 
--- a number and nothing beside it (01, Numbers given back)
+-- a number and nothing beside it
 abbrev pub refusedAs : ℕ → Opened
 refusedAs a = record { answer = a; fields = noFields; codes = zeros 322; entries = zeros 272 }
 
--- all that is opened beside 0 (01, Packet)
+-- all that is opened beside 0
 abbrev pub openedBy : ℕ → List ℕ → Opened
 openedBy zero b =
     record {
@@ -170,7 +170,7 @@ openedBy zero b =
     }
 openedBy (suc a) b = refusedAs (suc a)
 
--- what `read` gives (01, Numbers given back)
+-- what `read` gives
 unfoldable pub opened : List ℕ → Opened
 opened b = openedBy (readAnswer b) b
 
@@ -179,20 +179,20 @@ abbrev pub partBy : ℕ → ℕ → ℕ → List ℕ → List ℕ
 partBy zero from k b = take k (drop from b)
 partBy (suc a) from k b = []
 
--- the address, the text, the command or the raw bytes (01, Packet)
+-- the address, the text, the command or the raw bytes
 unfoldable pub bodyOf : List ℕ → List ℕ
 bodyOf b =
     partBy (readAnswer b) (3 + 12 * codesIn b + partAt (rowOf (formIn b)) / 8)
     (cond (hasEntries (formIn b)) 0 (countOf b)) b
 
--- the text, 20 bytes into the content; 27 where the type is not 15 (01, Numbers given back)
+-- the text, 20 bytes into the content; 27 where the type is not 15
 abbrev pub textCases : List ℕ → List Case
 textCases b = casesThen b (fieldBad b || not (eqb (kindIn b) 15))
 
--- the number that goes with the text (01, Numbers given back)
+-- the number that goes with the text
 unfoldable pub textAnswer : List ℕ → ℕ
 textAnswer b = first (textCases b)
 
--- what `text` hands back (01, Packet)
+-- what `text` hands back
 unfoldable pub textOf : List ℕ → List ℕ
 textOf b = partBy (textAnswer b) (23 + 12 * codesIn b) (countOf b) b

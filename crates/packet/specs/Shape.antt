@@ -1,4 +1,4 @@
--- The code's tables are those of Table: the first m of six lines, and behind them lines of no number.
+-- The code's tables are those of Table (01, Packet): the first m of six lines, and behind them lines of no number.
 use mathlib.Core.Path.{_≡_}
 use mathlib.Core.List.{List}
 use Prim.Native.Nat.{_-_, _≤_}
@@ -9,13 +9,13 @@ use Rattle.packet.specs.declared.Lines.{Lines}
 use Rattle.packet.specs.declared.Shape.{Shape}
 use Rattle.packet.specs.Table.{Row}
 
--- a list of six in code stands for the lines ts (01, Packet)
+-- a list of six in code stands for the lines ts
 pub record Listed (r : Lines) (ts : List Line) : Type 0 where
   pub lines : take (r .m) (r .all) ≡ ts
   pub few : r .m ≤ 6
   pub rest : drop (r .m) (r .all) ≡ replicate (6 - r .m) (octets 0)
 
--- a row in code stands for a row of the table (01, Packet)
+-- a row in code stands for a row of the table
 pub record Shaped (r : Shape) (t : Row) : Type 0 where
   pub same : r .sort ≡ t .sort
   pub first : Listed (r .before) (t .before)

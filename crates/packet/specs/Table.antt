@@ -1,7 +1,7 @@
 -- The packet as a table (000, 6.1.1 and 6.1.2; paper 01, "Packet"): a row for each kind of content, and the lines about them.
-use Prim.Native.Nat.{ℕ, _+_, _-_}
+use Prim.Native.Nat.{ℕ, _+_, _*_, _-_}
 use mathlib.Core.List.{List, [], _∷_, _++_}
-use mathlib.Core.Bool.{Bool, true, false, _&&_}
+use mathlib.Core.Bool.{Bool, true, false, _&&_, _||_}
 use lib.Dec.{leb, eqb}
 use Rattle.laws.specs.Bits.{at}
 use Rattle.format.specs.declared.Line.{Line}
@@ -49,6 +49,25 @@ typeOf Hold = 21
 typeOf Raw = 4
 typeOf Unknown = 31
 
+-- the types that a reader and a writer answer 23 (01, Numbers given back); the last of the kinds above is theirs: `packet:Forms.refused-types`
+abbrev pub refusedType : ℕ → Bool
+refusedType t = eqb t 9 || (eqb t 10 || ((leb 17 t && leb t 20) || leb 25 t))
+
+-- ---- the column of content bytes (01, Packet), k being the row's k, m or t, and the bytes of a raw content
+abbrev pub contentBytes : Form → ℕ → ℕ
+contentBytes Frequencies k = 1 + 5 * k
+contentBytes Address k = 13 + k
+contentBytes Keep k = 3
+contentBytes Clock k = 7
+contentBytes Reset k = 4
+contentBytes Factory k = 1
+contentBytes Drill k = 19
+contentBytes Text k = 20 + k
+contentBytes Command k = 1 + k
+contentBytes Hold k = 2
+contentBytes Raw k = k
+contentBytes Unknown k = 0
+
 -- ---- a row of the table of contents: lines, a row of lines that is repeated, lines; where counted, the count stands after the first (01, Packet)
 pub record Row : Type 0 where
   pub sort : Sort
@@ -56,15 +75,15 @@ pub record Row : Type 0 where
   pub each : List Line
   pub after : List Line
 
--- a row with no count (01, Packet)
+-- a row with no count
 abbrev pub fixed : List Line → Row
 fixed ls = record { sort = sort.Fixed; before = ls; each = []; after = [] }
 
--- a row whose repeated lines are counted (01, Packet)
+-- a row whose repeated lines are counted
 abbrev pub counted : List Line → List Line → List Line → Row
 counted ls row rest = record { sort = sort.Counted; before = ls; each = row; after = rest }
 
--- the table of contents (01, Packet)
+-- the table of contents
 abbrev pub rowOf : Form → Row
 rowOf Frequencies = counted [] (num 8 1 255 ∷ any 8 ∷ digits 6 ∷ []) []
 rowOf Address = counted [] (octets 1 ∷ []) (ones 4 ∷ digits 23 ∷ [])
@@ -79,14 +98,14 @@ rowOf Hold = fixed (any 8 ∷ ones 8 ∷ [])
 rowOf Raw = record { sort = sort.Raw; before = []; each = octets 1 ∷ []; after = [] }
 rowOf Unknown = record { sort = sort.Unknown; before = []; each = []; after = [] }
 
--- the count of a counted content, k; it has 8 bits (01, Packet)
+-- the count of a counted content, k; it has 8 bits
 abbrev pub countLine : Sort → ℕ → List Line
 countLine sort.Fixed k = []
 countLine sort.Counted k = just 8 k ∷ []
 countLine sort.Raw k = []
 countLine sort.Unknown k = []
 
--- the lines of a content whose row stands k times (01, Packet)
+-- the lines of a content whose row stands k times
 unfoldable pub contentLines : Row → ℕ → List Line
 contentLines r k = r .before ++ (countLine (r .sort) k ++ (times k (r .each) ++ r .after))
 
@@ -94,15 +113,15 @@ contentLines r k = r .before ++ (countLine (r .sort) k ++ (times k (r .each) ++ 
 abbrev pub code : List Line
 code = ones 4 ∷ digits 23 ∷ []
 
--- time, certificate number, signature (000, table 1)
+-- time, certificate number, signature
 abbrev pub ending : List Line
 ending = any 32 ∷ digits 12 ∷ octets 64 ∷ []
 
--- a packet of type t and p bytes, with n codes and a content whose row stands k times (01, Packet)
+-- a packet of type t and p bytes, with n codes and a content whose row stands k times
 unfoldable pub packet : Row → ℕ → ℕ → ℕ → ℕ → List Line
 packet r t p n k = just 5 t ∷ just 11 (p - 2) ∷ just 8 n ∷ (times n code ++ (contentLines r k ++ ending))
 
--- how often the row stands in a content of m bytes that begins at place q of the bits l (01, Packet)
+-- how often the row stands in a content of m bytes that begins at place q of the bits l
 abbrev pub countIn : Row → List ℕ → ℕ → ℕ → ℕ
 countIn r l q m = by (r .sort)
   where

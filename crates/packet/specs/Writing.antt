@@ -1,5 +1,5 @@
 -- The bytes of a packet from its fields, and what a writer answers (paper 01, "Numbers given back", Packet writer).
-use Prim.Native.Nat.{ℕ, zero, suc, _+_, _-_, _*_, _/_}
+use Prim.Native.Nat.{ℕ, zero, suc, _+_, _-_, _*_}
 use mathlib.Core.List.{List, [], _∷_, _++_}
 use mathlib.Core.Bool.{Bool, false, not, _&&_, _||_}
 use lib.ListN.{length, take, drop}
@@ -7,13 +7,13 @@ use lib.Dec.{leb, ltb, eqb}
 use Rattle.laws.specs.Bits.{bytes}
 use Rattle.laws.specs.Refusals.{Case, first}
 use Rattle.format.specs.declared.Line.{Line}
-use Rattle.format.specs.Format.{size, need, encode, fill, inside, fine}
+use Rattle.format.specs.Format.{need, encode, fill, inside, fine}
 use Rattle.packet.specs.declared.Sort.{Sort}
 use Rattle.packet.specs.declared.Sort.the-variants as sort
 use Rattle.packet.specs.declared.Content.{Content}
 use Rattle.packet.specs.declared.Fields.{Fields}
 use Rattle.packet.specs.declared.Written.{Written}
-use Rattle.packet.specs.Table.{formOf, typeOf, Row, rowOf, contentLines, packet}
+use Rattle.packet.specs.Table.{formOf, typeOf, contentBytes, Row, rowOf, packet}
 use Rattle.packet.specs.Content.{formFor, numbersOf, countFor, noSuchDay}
 use Rattle.packet.specs.Reading.{isUnknown}
 
@@ -21,48 +21,48 @@ use Rattle.packet.specs.Reading.{isUnknown}
 abbrev pub rowFor : Content → Row
 rowFor c = rowOf (formFor c)
 
--- so many digits stand before the count, and so many after the bytes (01, Packet)
+-- so many digits stand before the count, and so many after the bytes
 abbrev pub digitsBefore : Content → ℕ
 digitsBefore c = need (rowFor c .before) - length (numbersOf c)
 
--- so many behind them (01, Packet)
+-- so many behind them
 abbrev pub digitsAfter : Content → ℕ
 digitsAfter c = need (rowFor c .after)
 
--- the numbers before what is repeated (01, Packet)
+-- the numbers before what is repeated
 unfoldable pub frontFor : Content → List ℕ → List ℕ
 frontFor c ds = numbersOf c ++ take (digitsBefore c) ds
 
--- those behind (01, Packet)
+-- those behind
 unfoldable pub backFor : Content → List ℕ → List ℕ
 backFor c ds = take (digitsAfter c) ds
 
--- as much of what is lent as the content counts (01, Packet)
+-- as much of what is lent as the content counts
 unfoldable pub bodyFor : Content → List ℕ → List ℕ
 bodyFor c body = take (countFor c body * need (rowFor c .each)) body
 
--- ---- the packet's size, table, numbers and bytes (01, Packet)
+-- ---- the packet's size, table, numbers and bytes (01, Packet; 000, table 1)
 unfoldable pub sizeFor : Fields → List ℕ → ℕ
-sizeFor f body = 77 + 12 * f .codes + size (contentLines (rowFor (f .content)) (countFor (f .content) body)) / 8
+sizeFor f body = 77 + 12 * f .codes + contentBytes (formFor (f .content)) (countFor (f .content) body)
 
--- the lines of the whole packet (000, table 1)
+-- the lines of the whole packet
 unfoldable pub tableFor : Fields → List ℕ → List Line
 tableFor f body = packet (rowFor (f .content)) (f .kind) (sizeFor f body) (f .codes) (countFor (f .content) body)
 
--- the numbers of all free lines, in their order (000, table 1)
+-- the numbers of all free lines, in their order
 unfoldable pub numbersFor : Fields → List ℕ → List ℕ → List ℕ
 numbersFor f codes body =
     codes ++ (frontFor (f .content) (f .digits) ++ (bodyFor (f .content) body ++ (backFor (f .content) (f .digits) ++ (f .time ∷ (f .certificate ++ f .signature)))))
 
--- the same by lines (000, table 1)
+-- the same by lines
 abbrev pub valuesFor : Fields → List ℕ → List ℕ → List (List ℕ)
 valuesFor f codes body = fill (tableFor f body) (numbersFor f codes body)
 
--- the packet (000, table 1)
+-- the packet
 unfoldable pub bytesFor : Fields → List ℕ → List ℕ → List ℕ
 bytesFor f codes body = bytes (encode (tableFor f body) (valuesFor f codes body))
 
--- ---- the answer, in the order of paper 01
+-- ---- the answer, in the order of paper 01 (Numbers given back, Packet writer)
 -- 26: n, k, m or t is above 255, or is not that of what is lent; entries have as many numbers as their row
 abbrev pub lentBad : Sort → ℕ → ℕ → List ℕ → Bool
 lentBad sort.Fixed k w body = false
@@ -70,13 +70,13 @@ lentBad sort.Counted k w body = not (leb k 255 && eqb (length body) (k * w))
 lentBad sort.Raw k w body = false
 lentBad sort.Unknown k w body = false
 
--- of the codes or of the content (01, Numbers given back)
+-- of the codes or of the content
 unfoldable pub countBad : Fields → List ℕ → List ℕ → Bool
 countBad f codes body =
     not (leb (f .codes) 255 && eqb (length codes) (f .codes * 23))
     || lentBad (rowFor (f .content) .sort) (countFor (f .content) body) (need (rowFor (f .content) .each)) body
 
--- 25: a digit above 9, in the lines or in the places of digits that the content doesn't use (01, Numbers given back)
+-- 25: a digit above 9, in the lines or in the places of digits that the content doesn't use
 unfoldable pub digitBad : Fields → List ℕ → List ℕ → Bool
 digitBad f codes body = not (fine 25 (tableFor f body) (valuesFor f codes body)) || not (inside 0 9 (f .digits))
 
@@ -85,18 +85,18 @@ digitBad f codes body = not (fine 25 (tableFor f body) (valuesFor f codes body))
 abbrev pub otherType : Fields → Bool
 otherType f = not (eqb (typeOf (formOf (f .kind))) (typeOf (formFor (f .content))))
 
--- a body for a content that has none (01, Numbers given back)
+-- a body for a content that has none
 abbrev pub bodyLost : Sort → List ℕ → Bool
 bodyLost sort.Fixed body = not (eqb (length body) 0)
 bodyLost sort.Counted body = false
 bodyLost sort.Raw body = false
 bodyLost sort.Unknown body = false
 
--- digits in places that the content does not use (01, Numbers given back)
+-- digits in places that the content does not use
 abbrev pub digitsLost : Content → List ℕ → Bool
 digitsLost c ds = not (inside 0 0 (drop (digitsBefore c + digitsAfter c) ds))
 
--- any of these (01, Numbers given back)
+-- any of these
 unfoldable pub notTaken : Fields → List ℕ → List ℕ → Bool
 notTaken f codes body =
     otherType f
@@ -105,7 +105,7 @@ notTaken f codes body =
     || ((eqb (f .kind) 1 && not (eqb (f .codes) 0))
     || (not (fine 27 (tableFor f body) (valuesFor f codes body)) || noSuchDay (f .content)))))
 
--- the writer's cases (01, Numbers given back)
+-- the writer's cases
 abbrev pub writeCases : Fields → List ℕ → List ℕ → ℕ → List Case
 writeCases f codes body room =
     (isUnknown (formOf (f .kind)), 23)
@@ -116,7 +116,7 @@ writeCases f codes body room =
     ∷ (ltb room (sizeFor f body), 10)
     ∷ []
 
--- its number (01, Numbers given back)
+-- its number
 unfoldable pub writtenAnswer : Fields → List ℕ → List ℕ → ℕ → ℕ
 writtenAnswer f codes body room = first (writeCases f codes body room)
 
@@ -125,15 +125,15 @@ abbrev pub writtenBy : ℕ → ℕ → Written
 writtenBy zero p = record { answer = 0; length = p }
 writtenBy (suc a) p = record { answer = suc a; length = 0 }
 
--- what `write` gives (01, Numbers given back)
+-- what `write` gives
 unfoldable pub written : Fields → List ℕ → List ℕ → ℕ → Written
 written f codes body room = writtenBy (writtenAnswer f codes body room) (sizeFor f body)
 
--- the packet's bytes at the start beside 0, else all as it was (01, Numbers given back)
+-- the packet's bytes at the start beside 0, else all as it was
 abbrev pub outputBy : ℕ → List ℕ → List ℕ → List ℕ
 outputBy zero xs out = xs ++ drop (length xs) out
 outputBy (suc a) xs out = out
 
--- what `write` leaves in the lent output (01, Numbers given back)
-unfoldable pub outputOf : Fields → List ℕ → List ℕ → List ℕ → List ℕ
-outputOf f codes body out = outputBy (writtenAnswer f codes body (length out)) (bytesFor f codes body) out
+-- what `write` leaves in the lent output
+unfoldable pub packetOutput : Fields → List ℕ → List ℕ → List ℕ → List ℕ
+packetOutput f codes body out = outputBy (writtenAnswer f codes body (length out)) (bytesFor f codes body) out

@@ -4,8 +4,8 @@ use mathlib.Core.List.{List, _++_}
 use Prim.Native.Nat.{ℕ, _-_, _≤_}
 use lib.ListN.{length, replicate, take-append-drop}
 use lib.Seq.{length-take-le}
-use Rattle.laws.specs.Bits.{bits, bytes}
-use Rattle.laws.proofs.Bits.{Under, bytes-bits}
+use Rattle.laws.specs.Bits.{bits, bytes, Under}
+use Rattle.laws.proofs.Bits.{bytes-bits}
 use Rattle.format.specs.declared.Line.{Line}
 use Rattle.format.specs.Format.{octets}
 use Rattle.packet.specs.declared.Lines.{Lines}
@@ -13,6 +13,7 @@ use Rattle.packet.specs.declared.Shape.{Shape}
 use Rattle.packet.specs.declared.Sort.{Sort}
 use Rattle.packet.specs.Table.{Row}
 use Rattle.packet.specs.Shape.{Listed, Shaped}
+use Rattle.promises.specs.Sixes.{Sized}
 
 -- Whatever a contract says the answer equals, any two answers that it allows are equal.
 pub one-answer : {Answer : Type 0} (said : Answer) (a b : Answer) → a ≡ said → b ≡ said → a ≡ b
@@ -39,12 +40,6 @@ one-listing r s ts a b h k =
     let x = listed r ts a h in
     let y = listed s ts b k in
     ap₂ (λ (m : ℕ) (all : List Line). record { m = m; all = all }) (one-answer (length ts) (r .m) (s .m) (x .0) (y .0)) (one-answer (ts ++ replicate (6 - length ts) (octets 0)) (r .all) (s .all) (x .1) (y .1))
-
--- the three lists of a row, each an array of six
-pub record Sized (r : Shape) : Type 0 where
-  pub first : length (r .before .all) ≡ 6
-  pub rows : length (r .each .all) ≡ 6
-  pub last : length (r .after .all) ≡ 6
 
 -- Any two answers that give a row of the table are equal.
 pub one-row : (r s : Shape) (t : Row) → Sized r → Sized s → Shaped r t → Shaped s t → r ≡ s

@@ -1,3 +1,4 @@
 pub mod Pier
 pub mod Exactly
 pub mod Run
+pub mod Sixes

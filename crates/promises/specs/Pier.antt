@@ -10,7 +10,7 @@ use Rattle.frame.specs.declared.Heading.{Heading}
 use Rattle.frame.specs.Heading.{headingOf, headingWords, headingBytes}
 use Rattle.air.specs.OnAir.{framesFor}
 use Rattle.packet.specs.declared.Fields.{Fields}
-use Rattle.packet.specs.Writing.{sizeFor, bytesFor, writtenAnswer}
+use Rattle.packet.specs.Writing.{written, packetOutput}
 use Rattle.packet.specs.Examples.{textSample, holdSample}
 
 -- level 5, version 3, total 20
@@ -32,16 +32,17 @@ pub data Example : Type 0 where
   -- how many frames a packet of so many bytes takes, and how many bytes of fill
   frames : (size count fill : ℕ) → Example
 
--- it is so by the definitions that the contracts cite, with so many bytes lent, in frames that carry these four
+-- it is so by the definitions that the contracts cite, with so much room lent where the example names none, in frames that carry these four bytes
 unfoldable pub holds : ℕ → ℕ → ℕ → ℕ → ℕ → Example → Bool
-holds lent a b c d (check info offset word) = eqb (checkWord info offset) word
-holds lent a b c d (blocks h one two) = eqb (headingWords h .0) one && eqb (headingWords h .1) two
-holds lent a b c d (headed h answer) = eqb (headingOf (headingBytes h ++ (a ∷ b ∷ c ∷ d ∷ [])) .answer) answer
-holds lent a b c d (packet f codes body size first second) =
-    eqb (writtenAnswer f codes body size) 0
-    && (eqb (sizeFor f body) size && (eqb (getD (bytesFor f codes body) 0 0) first && eqb (getD (bytesFor f codes body) 1 0) second))
-holds lent a b c d (refused f codes body answer) = eqb (writtenAnswer f codes body lent) answer
-holds lent a b c d (frames size count fill) = eqb (framesFor size) count && eqb (count * 4) (size + 2 + fill)
+holds room a b c d (check info offset word) = eqb (checkWord info offset) word
+holds room a b c d (blocks h one two) = eqb (headingWords h .0) one && eqb (headingWords h .1) two
+holds room a b c d (headed h answer) = eqb (headingOf (headingBytes h ++ (a ∷ b ∷ c ∷ d ∷ [])) .answer) answer
+holds room a b c d (packet f codes body size first second) =
+    eqb (written f codes body size .answer) 0
+    && (eqb (written f codes body size .length) size
+    && (eqb (getD (packetOutput f codes body (replicate size 0)) 0 0) first && eqb (getD (packetOutput f codes body (replicate size 0)) 1 0) second))
+holds room a b c d (refused f codes body answer) = eqb (written f codes body room .answer) answer
+holds room a b c d (frames size count fill) = eqb (framesFor size) count && eqb (count * 4) (size + 2 + fill)
 
 -- the cases in the order of the paper
 unfoldable pub examples : List Example

@@ -1,10 +1,17 @@
--- The answers to frames offered one after the other.
+-- Frames offered one after the other: the answers, and a collector that was offered all that a receiver hands out.
 use mathlib.Core.List.{List, [], _∷_}
 use Prim.Native.Nat.{ℕ}
 use Rattle.collector.specs.declared.Collector.{Collector}
-use Rattle.collector.specs.Collector.{offered}
+use Rattle.receiver.specs.Receive.{freshReceiver}
+use Rattle.receiver.specs.Calls.{Call, allFrames}
+use Rattle.collector.specs.Collector.{nothing, offered}
+use Rattle.order.specs.Held.{offerAll}
 
 -- each answer, the collector carried from offer to offer (demand 2)
 unfoldable pub answersTo : Collector → List (List ℕ) → List ℕ
 answersTo c [] = []
 answersTo c (f ∷ fs) = offered c f .answer ∷ answersTo (offered c f .collector) fs
+
+-- a collector that was empty, once it was offered what a fresh receiver hands out (demand 2)
+abbrev pub collected : List Call → Collector
+collected calls = offerAll nothing (allFrames freshReceiver calls)

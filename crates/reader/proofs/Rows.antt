@@ -12,7 +12,7 @@ use Rattle.laws.specs.Bits.{at, run, bits}
 use Rattle.laws.specs.Scan.{all}
 use Rattle.laws.proofs.Writes.{sets-append, from-front}
 use Rattle.laws.proofs.Cases.{if-yes, and-yes}
-use Rattle.format.specs.Reach.{fieldsOf}
+use Rattle.format.specs.Reach.{fieldsRead}
 use Rattle.format.proofs.Leaves.{reached}
 use Rattle.format.specs.declared.Line.{Line}
 use Rattle.format.specs.Format.{times, size, need, decode, flat, sound}
@@ -108,7 +108,7 @@ unfolding times flat
 rows-end row b o all n j p i h g = let r : n - j ≡ 0 = omega arith in sym (g ∙ rw r)
 
 -- ---- numbers read to an array
-pub got : (z o l : List ℕ) (p n w to : ℕ) → o ≡ sets z to (fieldsOf l p n w to) → p < 65536 → n < 256 → w ≤ 8 → to < 65536 → o ≡ sets z to (run l p n w)
+pub got : (z o l : List ℕ) (p n w to : ℕ) → o ≡ sets z to (fieldsRead l p n w to) → p < 65536 → n < 256 → w ≤ 8 → to < 65536 → o ≡ sets z to (run l p n w)
 got z o l p n w to e h k m i = e ∙ ap (sets z to) (if-yes (run l p n w) [] (and-yes (leb w 8 && ltb to 65536) (reached p n w h k (omega arith)) ∙ and-yes (ltb to 65536) (le-leb w 8 m) ∙ lt-ltb to 65536 i))
 
 -- zeros filled to their end

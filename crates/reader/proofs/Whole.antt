@@ -1,29 +1,31 @@
 -- The tests of a whole packet, part by part. Assumes nothing.
 use mathlib.Core.Path.{_≡_, refl, sym, ap, _∙_}
-use mathlib.Core.List.{List, [], _∷_, _++_}
-use mathlib.Core.Bool.{Bool, true, false, not, _&&_, _||_, cond}
-use Prim.Native.Nat.{ℕ, zero, suc, _+_, _*_, _≤_, _<_}
+use mathlib.Core.List.{List, [], _++_}
+use mathlib.Core.Bool.{Bool, true, false, not, _&&_, cond}
+use Prim.Native.Nat.{ℕ, _+_, _-_, _*_, _/_, _≤_, _<_}
 use native.Mathlib.Nat.{le-trans, mul-le-mul-left}
 use native.Mathlib.Omega.{arith}
-use lib.Dec.{leb, ltb, eqb}
-use lib.ListN.{length}
-use borrow.Author.Tests.{lt-leb, le-leb, ne-eqb, eq-eqb, leb-true, eqb-true, not-false}
+use lib.Dec.{ltb, eqb}
+use lib.ListN.{length, take, drop}
+use borrow.Author.Tests.{lt-leb, le-leb, ne-eqb, eq-eqb, eqb-true, eqb-false}
 use Rattle.laws.specs.Bits.{bits}
 use Rattle.laws.specs.Scan.{all}
 use Rattle.laws.specs.Refusals.{first}
 use Rattle.laws.proofs.Bits.{at-small}
-use Rattle.laws.proofs.Cases.{and-both}
+use Rattle.laws.proofs.Elements.{by-test}
+use Rattle.laws.proofs.Refusals.{stop, pass, none-left}
 use Rattle.format.specs.declared.Line.{Line}
 use Rattle.format.specs.Format.{times, size, decode, fine}
 use Rattle.format.proofs.Tables.{fine-append, size-times, unmet-fine}
 use Rattle.packet.specs.declared.Form.{Form}
 use Rattle.packet.specs.declared.Sort.{Sort}
 use Rattle.packet.specs.declared.Sort.the-variants as sort
-use Rattle.packet.specs.Table.{Row, rowOf, countLine, countIn, contentLines, code, ending, packet}
-use Rattle.packet.specs.Reading.{kindIn, lengthIn, codesIn, formIn, contentAt, contentSize, countOf, partAt, tableOf, valuesIn, sizeBad, lengthBad, isUnknown, fieldBad, readAnswer, textAnswer}
+use Rattle.packet.specs.Table.{Row, typeOf, contentBytes, rowOf, countLine, countIn, contentLines, code, ending, packet}
+use Rattle.packet.specs.Reading.{lengthIn, codesIn, formIn, contentAt, contentSize, countOf, partAt, tableOf, valuesIn, sizeBad, lengthBad, fieldBad, readCases, readAnswer, textAnswer, textOf, bodyOf, hasEntries}
 use Rattle.packet.proofs.Forms.{below-not}
-use Rattle.packet.proofs.Sizes.{count-size, content-size}
-use Rattle.laws.proofs.Refusals.{not-due}
+use Rattle.packet.proofs.Sizes.{count-size, content-size, column}
+use Rattle.packet.proofs.Accepted.{no-size}
+pub use Rattle.packet.proofs.Accepted.{Sized, sized, Accepted, accepted, right-size, text-there, text-inside, body-inside, later, later-not, text-later}
 
 -- ---- answer 20
 pub short : (b : List ℕ) → length b < 77 → true ≡ sizeBad b
@@ -42,19 +44,9 @@ pub few : (b : List ℕ) → 77 ≤ length b → length b ≤ 250 → length b �
 unfolding sizeBad
 few b l h e = below-not (length b) (77 + 12 * codesIn b) ∙ rw (le-leb 77 (length b) l, le-leb (length b) 250 h, eq-eqb (length b) (lengthIn b + 2) e)
 
--- what a right size says
-pub record Sized (b : List ℕ) : Type 0 where
-  pub least : 77 + 12 * codesIn b ≤ length b
-  pub most : length b ≤ 250
-  pub field : length b ≡ lengthIn b + 2
-
-pub sized : (b : List ℕ) → sizeBad b ≡ false → Sized b
-unfolding sizeBad
-sized b e =
-    let a = and-both (leb 77 (length b) && leb (length b) 250) _ (not-false _ e) in
-    let c = and-both (leb 77 (length b)) (leb (length b) 250) (a .0) in
-    let d = and-both (eqb (length b) (lengthIn b + 2)) (leb (77 + 12 * codesIn b) (length b)) (a .1) in
-    record { least = leb-true _ _ (d .1); most = leb-true _ _ (c .1); field = eqb-true _ _ (d .0) }
+-- an accepted packet has at most 250 bytes
+pub most : (b : List ℕ) → readAnswer b ≡ 0 → length b ≤ 250
+most b e = sized b (no-size b e) .most
 
 -- a count is that of a byte, or of at most as many bytes as there are
 count-by : (r : Row) (b : List ℕ) (q m : ℕ) → m < 256 → countIn r (bits b) q m < 256
@@ -127,43 +119,16 @@ count-at b f n m e h i = rw (e, h, i)
 pub length-at : (b : List ℕ) (f : Form) (k m x y z : ℕ) → f ≡ formIn b → k ≡ countOf b → m ≡ contentSize b → x ≡ partAt (rowOf f) → y ≡ size (rowOf f .each) → z ≡ size (rowOf f .after)
     → not (eqb (x + k * y + z) (8 * m)) ≡ lengthBad b
 unfolding lengthBad
-length-at b f k m x y z e h i p q r = rw (p, q, r, e, h, i, content-size (rowOf (formIn b)) (countOf b))
+length-at b f k m x y z e h i p q r =
+    let l = content-size (rowOf f) k in
+    let w : x + k * y + z ≡ 8 * contentBytes f k = rw (p, q, r) (sym l ∙ column f k) in
+    ap (λ (n : ℕ). not (eqb n (8 * m))) w ∙ ap not (eighths (contentBytes f k) m) ∙ rw (e, h, i)
+  where
+    eighths : (n m : ℕ) → eqb (8 * n) (8 * m) ≡ eqb n m
+    eighths n m = by-test (eqb n m) (λ t. eq-eqb _ _ (ap (λ (j : ℕ). 8 * j) (eqb-true n m t)) ∙ sym t) (λ t. ne-eqb (8 * n) (8 * m) (λ (g : 8 * n ≡ 8 * m). eqb-false n m t (omega arith)) ∙ sym t)
 
 pub row-fits : (k w : ℕ) → k < 256 → w ≤ 40 → k * w ≤ 10200
 row-fits k w h g = le-trans (mul-le-mul-left k g) (omega arith)
-
--- ---- an accepted packet, and a refused one
-pub no-size : (b : List ℕ) → readAnswer b ≡ 0 → sizeBad b ≡ false
-unfolding readAnswer
-no-size b e = not-due (sizeBad b) 20 _ (λ h. omega arith) e .0
-
--- ---- one more case of 27 after the reader's
-abbrev pub later : ℕ → Bool → ℕ
-later zero y = cond y 27 0
-later (suc a) y = suc a
-
-pub later-not : (a : ℕ) (y : Bool) → (a ≡ 0 → ⊥) → later a y ≡ a
-later-not zero y h = absurd (h refl)
-later-not (suc a) y h = refl
-
-one-more : (t1 t2 t3 t4 t5 x y : Bool) → first ((t1, 20) ∷ (t2, 23) ∷ (t3, 26) ∷ (t4, 24) ∷ (t5, 25) ∷ (x || y, 27) ∷ []) ≡ later (first ((t1, 20) ∷ (t2, 23) ∷ (t3, 26) ∷ (t4, 24) ∷ (t5, 25) ∷ (x, 27) ∷ [])) y
-unfolding first
-one-more true t2 t3 t4 t5 x y = refl
-one-more false true t3 t4 t5 x y = refl
-one-more false false true t4 t5 x y = refl
-one-more false false false true t5 x y = refl
-one-more false false false false true x y = refl
-one-more false false false false false true y = refl
-one-more false false false false false false true = refl
-one-more false false false false false false false = refl
-
-pub text-later : (b : List ℕ) → textAnswer b ≡ later (readAnswer b) (not (eqb (kindIn b) 15))
-unfolding textAnswer readAnswer
-text-later b = one-more (sizeBad b) (isUnknown (formIn b)) (lengthBad b) (not (fine 24 (tableOf b) (valuesIn b))) (not (fine 25 (tableOf b) (valuesIn b))) (fieldBad b) (not (eqb (kindIn b) 15))
-
-pub right-length : (b : List ℕ) → lengthBad b ≡ false → size (contentLines (rowOf (formIn b)) (countOf b)) ≡ 8 * contentSize b
-unfolding lengthBad
-right-length b e = eqb-true _ _ (not-false _ e)
 
 pub frame-at : (a : ℕ) (b : List ℕ) (n m : ℕ) → n ≡ codesIn b → m ≡ contentSize b
     → (fine a (times n code) (decode (times n code) (bits b) 24) && fine a ending (decode ending (bits b) (24 + 96 * n + 8 * m)))
@@ -174,3 +139,54 @@ pub content-here : (a : ℕ) (b : List ℕ) (f : Form) (k n : ℕ) → f ≡ for
     → fine a (contentLines (rowOf f) k) (decode (contentLines (rowOf f) k) (bits b) (24 + 96 * n))
     ≡ fine a (contentLines (rowOf (formIn b)) (countOf b)) (decode (contentLines (rowOf (formIn b)) (countOf b)) (bits b) (contentAt b))
 content-here a b f k n e h i = rw (e, h, i)
+
+-- ---- the reader's answers, one law for each way out of the code
+module _ (b : List ℕ) where
+  pub says-20 : sizeBad b ≡ true → 20 ≡ readAnswer b
+  unfolding readAnswer
+  says-20 e = sym (stop _ _ e)
+
+  module _ (s : sizeBad b ≡ false) where
+    pub says-23 : typeOf (formIn b) ≡ 31 → 23 ≡ readAnswer b
+    unfolding readAnswer
+    says-23 e = sym (pass _ _ s ∙ stop _ _ (eq-eqb _ _ e))
+
+    module _ (u : typeOf (formIn b) ≡ 31 → ⊥) where
+      pub says-26 : lengthBad b ≡ true → 26 ≡ readAnswer b
+      unfolding readAnswer
+      says-26 e = sym (pass _ _ s ∙ pass _ _ (ne-eqb _ _ u) ∙ stop _ _ e)
+
+      pub then-lines : lengthBad b ≡ false → (a : ℕ) → a ≡ first (drop 3 (readCases b)) → a ≡ readAnswer b
+      unfolding readAnswer
+      then-lines l a e = e ∙ sym (pass _ _ s ∙ pass _ _ (ne-eqb _ _ u) ∙ pass _ _ l)
+
+  pub says-24 : fine 24 (tableOf b) (valuesIn b) ≡ false → 24 ≡ first (drop 3 (readCases b))
+  says-24 e = sym (stop _ _ (ap not e))
+
+  module _ (r : fine 24 (tableOf b) (valuesIn b) ≡ true) where
+    pub says-25 : fine 25 (tableOf b) (valuesIn b) ≡ false → 25 ≡ first (drop 3 (readCases b))
+    says-25 e = sym (pass _ _ (ap not r) ∙ stop _ _ (ap not e))
+
+    module _ (d : fine 25 (tableOf b) (valuesIn b) ≡ true) where
+      pub says-27 : fieldBad b ≡ true → 27 ≡ first (drop 3 (readCases b))
+      says-27 e = sym (pass _ _ (ap not r) ∙ pass _ _ (ap not d) ∙ stop _ _ e)
+
+      pub says-0 : fieldBad b ≡ false → 0 ≡ first (drop 3 (readCases b))
+      says-0 e = sym (pass _ _ (ap not r) ∙ pass _ _ (ap not d) ∙ pass 27 [] e ∙ none-left)
+
+-- ---- the parts that are handed back, from what the code computes: n codes, and k bytes
+module _ (b : List ℕ) (n k : ℕ) (codes : n ≡ codesIn b) where
+  pub text-end : textAnswer b ≡ 0 → k ≡ countOf b → 23 + 12 * n + k ≤ length b
+  text-end e f = let t = text-there b e in omega (arith, text-inside b (accepted b (t .0)) (t .1), codes, f)
+
+  pub text-part : textAnswer b ≡ 0 → k ≡ countOf b → take (23 + 12 * n + k - (23 + 12 * n)) (drop (23 + 12 * n) b) ≡ textOf b
+  unfolding textOf
+  text-part e f = let w : 23 + 12 * n + k - (23 + 12 * n) ≡ k = omega arith in rw (w, e, f, codes)
+
+  module _ (l : ℕ) (lead : l ≡ partAt (rowOf (formIn b))) where
+    pub body-end : readAnswer b ≡ 0 → k ≡ cond (hasEntries (formIn b)) 0 (countOf b) → 3 + 12 * n + l / 8 + k ≤ length b
+    body-end e f = rw (codes, lead, f) (omega (arith, body-inside b (accepted b e)))
+
+    pub body-part : readAnswer b ≡ 0 → k ≡ cond (hasEntries (formIn b)) 0 (countOf b) → take (3 + 12 * n + l / 8 + k - (3 + 12 * n + l / 8)) (drop (3 + 12 * n + l / 8) b) ≡ bodyOf b
+    unfolding bodyOf
+    body-part e f = let w : 3 + 12 * n + l / 8 + k - (3 + 12 * n + l / 8) ≡ k = omega arith in rw (w, e, f, lead, codes)

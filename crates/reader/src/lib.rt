@@ -106,8 +106,8 @@ pub fn text(packet: &[u8]) -> &[u8]
 {
     if text_answer(packet) == 0 {
         let from = 23 + 12 * parts::codes_count(packet);
-        let k = parts::text_length(packet);
-        format::part(packet, from, k)
+        let end = from + parts::text_length(packet);
+        &packet[from..end]
     } else {
         &packet[0..0]
     }
@@ -119,8 +119,8 @@ pub fn body(packet: &[u8]) -> &[u8]
 {
     if tests::answer(packet) == 0 {
         let from = 3 + 12 * parts::codes_count(packet) + parts::lead(packet) / 8;
-        let k = parts::bytes_count(packet);
-        format::part(packet, from, k)
+        let end = from + parts::bytes_count(packet);
+        &packet[from..end]
     } else {
         &packet[0..0]
     }

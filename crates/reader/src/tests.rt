@@ -2,11 +2,12 @@
 ghost use mathlib.Core.Path.{_≡_};
 ghost use mathlib.Core.Bool.{_&&_, false};
 ghost use Prim.Native.Nat.{_<_, _≤_};
-ghost use lib.ListN.{length};
+ghost use lib.ListN.{length, drop};
 ghost use Rattle.laws.specs.Bits.{bits};
 ghost use Rattle.format.specs.Format.{times, decode, fine};
 ghost use Rattle.packet.specs.Table.{rowOf, code, ending, contentLines};
-ghost use Rattle.packet.specs.Reading.{sizeBad, lengthBad, tableOf, valuesIn, readAnswer};
+ghost use Rattle.laws.specs.Refusals.{first};
+ghost use Rattle.packet.specs.Reading.{sizeBad, lengthBad, tableOf, valuesIn, readCases, readAnswer};
 use crate::lines;
 use crate::parts;
 use packet::Form;
@@ -85,19 +86,11 @@ fn packet_fine(a: u8, b: &[u8]) -> bool
     content_fine(a, parts::form(b), parts::count(b), b, q)
 }
 
-// The reader's answer.
-pub(crate) fn answer(b: &[u8]) -> u8
-    ensures { λ r. ⌜ r ≡ readAnswer (now (b .entry)) ⌝ }
+// What the lines of a packet, whose sizes are right, are due: 24, 25 or 27.
+fn lines_answer(b: &[u8]) -> u8
+    requires { ⌜ (sizeBad (now b) ≡ false) × (lengthBad (now b) ≡ false) ⌝ }
+    ensures { λ r. ⌜ r ≡ first (drop 3 (readCases (now (b .entry)))) ⌝ }
 {
-    if size_bad(b) {
-        return 20;
-    }
-    if packet::type_of(parts::form(b)) == 31 {
-        return 23;
-    }
-    if length_bad(b) {
-        return 26;
-    }
     if !packet_fine(24, b) {
         return 24;
     }
@@ -111,4 +104,20 @@ pub(crate) fn answer(b: &[u8]) -> u8
         return 27;
     }
     0
+}
+
+// The reader's answer.
+pub(crate) fn answer(b: &[u8]) -> u8
+    ensures { λ r. ⌜ r ≡ readAnswer (now (b .entry)) ⌝ }
+{
+    if size_bad(b) {
+        return 20;
+    }
+    if packet::type_of(parts::form(b)) == 31 {
+        return 23;
+    }
+    if length_bad(b) {
+        return 26;
+    }
+    lines_answer(b)
 }

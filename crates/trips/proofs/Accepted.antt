@@ -1,4 +1,4 @@
--- What it says of a packet that a reader answers 0, and the tests of its lines that follow. Assumes nothing.
+-- The tests of the lines of a packet that a reader answers 0. Assumes nothing.
 use mathlib.Core.Path.{_≡_, refl, sym, ap, ap₂, _∙_}
 use mathlib.Core.List.{List, [], _∷_}
 use mathlib.Core.Bool.{Bool, true, false, not, _&&_, _||_, or-true}
@@ -6,12 +6,12 @@ use Prim.Native.Nat.{ℕ, _+_, _*_, _-_, _≤_}
 use native.Mathlib.Nat.{zero-mul}
 use native.Mathlib.Omega.{arith}
 use lib.ListN.{length}
-use lib.Dec.{leb, eqb}
-use borrow.Author.Tests.{leb-true, eqb-true, not-false, le-leb, eq-eqb}
+use lib.Dec.{eqb}
+use borrow.Author.Tests.{eqb-true, le-leb, eq-eqb}
 use Rattle.laws.specs.Bits.{at, run, bits}
 use Rattle.laws.specs.Scan.{all}
 use Rattle.laws.proofs.Bits.{at-small}
-use Rattle.laws.proofs.Cases.{and-both, and-yes, and-no, or-both}
+use Rattle.laws.proofs.Cases.{and-yes, and-no}
 use Rattle.format.specs.declared.Line.{Line}
 use Rattle.format.specs.Format.{just, size, decode, need, inside, lineOk, fine, unmet}
 use Rattle.format.proofs.Tables.{settled}
@@ -20,50 +20,12 @@ use Rattle.packet.specs.declared.Form.the-variants.{Frequencies}
 use Rattle.packet.specs.declared.Sort.{Sort}
 use Rattle.packet.specs.declared.Sort.the-variants as sort
 use Rattle.packet.specs.Table.{Row, rowOf, countLine, countIn, contentLines, code, ending, packet}
-use Rattle.packet.specs.Content.{contentOf, countFor, noSuchDay}
-use Rattle.packet.specs.Reading.{kindIn, lengthIn, codesIn, formIn, contentAt, contentSize, countOf, partAt, tableOf, valuesIn, contentIn, digitsIn, padded, fieldsOf, sizeBad, lengthBad, isUnknown, readAnswer}
+use Rattle.packet.specs.Content.{contentOf, countFor}
+use Rattle.packet.specs.Reading.{kindIn, codesIn, formIn, contentAt, contentSize, countOf, partAt, tableOf, valuesIn, digitsIn, padded, fieldsOf}
 use Rattle.packet.specs.Writing.{lentBad, bodyLost}
 use Rattle.packet.proofs.Sizes.{content-size}
 use Rattle.trips.proofs.Parts as parts
 use Rattle.trips.proofs.Contents as contents
-use Rattle.laws.proofs.Refusals.{not-due}
-
--- ---- what a reader's 0 says
-pub record Accepted (b : List ℕ) : Type 0 where
-  pub least : 77 + 12 * codesIn b ≤ length b
-  pub most : length b ≤ 250
-  pub field : length b ≡ lengthIn b + 2
-  pub known : isUnknown (formIn b) ≡ false
-  pub right : size (contentLines (rowOf (formIn b)) (countOf b)) ≡ 8 * contentSize b
-  pub c24 : fine 24 (tableOf b) (valuesIn b) ≡ true
-  pub c25 : fine 25 (tableOf b) (valuesIn b) ≡ true
-  pub c27 : fine 27 (tableOf b) (valuesIn b) ≡ true
-  pub day : noSuchDay (contentIn b) ≡ false
-
-pub accepted : (b : List ℕ) → readAnswer b ≡ 0 → Accepted b
-unfolding readAnswer sizeBad lengthBad
-accepted b e =
-    let p = not-due _ 20 _ (λ h. omega arith) e in
-    let q = not-due (isUnknown (formIn b)) 23 _ (λ h. omega arith) (p .1) in
-    let r = not-due _ 26 _ (λ h. omega arith) (q .1) in
-    let s = not-due _ 24 _ (λ h. omega arith) (r .1) in
-    let t = not-due _ 25 _ (λ h. omega arith) (s .1) in
-    let w = not-due _ 27 _ (λ h. omega arith) (t .1) in
-    let p1 = and-both (leb 77 (length b) && leb (length b) 250) _ (not-false _ (p .0)) in
-    let p2 = and-both (leb 77 (length b)) (leb (length b) 250) (p1 .0) in
-    let p3 = and-both (eqb (length b) (lengthIn b + 2)) (leb (77 + 12 * codesIn b) (length b)) (p1 .1) in
-    let w1 = or-both (not (fine 27 (tableOf b) (valuesIn b))) (noSuchDay (contentIn b)) (w .0) in
-    record {
-      least = leb-true _ _ (p3 .1);
-      most = leb-true _ _ (p2 .1);
-      field = eqb-true _ _ (p3 .0);
-      known = q .0;
-      right = eqb-true _ _ (not-false _ (r .0));
-      c24 = not-false _ (s .0);
-      c25 = not-false _ (t .0);
-      c27 = not-false _ (w1 .0);
-      day = w1 .1;
-    }
 
 pub of-count : (b : List ℕ) → countOf b ≡ countIn (rowOf (formIn b)) (bits b) (contentAt b) (contentSize b)
 unfolding countOf

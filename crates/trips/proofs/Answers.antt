@@ -4,13 +4,13 @@ use mathlib.Core.Path.{_≡_, refl}
 use mathlib.Core.Logic.{_↔_, _⊎_}
 use mathlib.Core.Bool.{Bool, true}
 use mathlib.Core.List.{List}
-use Prim.Native.Nat.{ℕ, _<_}
+use Prim.Native.Nat.{ℕ, zero, suc, _<_}
 use lib.ListN.{take}
 use Rattle.laws.specs.Refusals.{none, among, apart, caseAt}
 use Rattle.laws.proofs.Refusals.{exact, done, listed}
 use Rattle.packet.specs.declared.Fields.{Fields}
-use Rattle.packet.specs.Reading.{casesThen, readCases, readAnswer, textCases, textAnswer}
-use Rattle.packet.specs.Writing.{writeCases, writtenAnswer}
+use Rattle.packet.specs.Reading.{casesThen, readCases, readAnswer, openedBy, opened, textCases, textAnswer}
+use Rattle.packet.specs.Writing.{sizeFor, writeCases, writtenAnswer, writtenBy, written}
 
 pub then-apart : (b : List ℕ) (x : Bool) → apart (casesThen b x) ≡ true
 unfolding apart among
@@ -19,6 +19,23 @@ then-apart b x = refl
 pub write-apart : (f : Fields) (codes body : List ℕ) (room : ℕ) → apart (writeCases f codes body room) ≡ true
 unfolding apart among
 write-apart f codes body room = refl
+
+-- the number that `read` gives is the reader's, and the one that `write` gives the writer's
+pub read-answer : (b : List ℕ) → opened b .answer ≡ readAnswer b
+unfolding opened
+read-answer b = go (readAnswer b)
+  where
+    go : (a : ℕ) → openedBy a b .answer ≡ a
+    go zero = refl
+    go (suc a) = refl
+
+pub write-answer : (f : Fields) (codes body : List ℕ) (room : ℕ) → written f codes body room .answer ≡ writtenAnswer f codes body room
+unfolding written
+write-answer f codes body room = go (writtenAnswer f codes body room)
+  where
+    go : (a : ℕ) → writtenBy a (sizeFor f body) .answer ≡ a
+    go zero = refl
+    go (suc a) = refl
 
 -- place k of the reader's list, 20, 23, 26, 24, 25, 27
 pub read-exact : (b : List ℕ) (k : ℕ) → k < 6 → (readAnswer b ≡ caseAt (readCases b) k .1) ↔ ((caseAt (readCases b) k .0 ≡ true) × (none (take k (readCases b)) ≡ true))

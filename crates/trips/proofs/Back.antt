@@ -3,7 +3,7 @@ use mathlib.Core.Path.{_≡_, refl, sym, ap, ap₂, _∙_}
 use mathlib.Core.Logic.{_⊎_, inl, inr}
 use mathlib.Core.List.{List, [], _∷_, _++_, append-nil, append-assoc}
 use mathlib.Core.Bool.{Bool, true, false, not, _&&_, _||_, cond, true≢false}
-use Prim.Native.Nat.{ℕ, zero, suc, _+_, _*_, _-_, _/_, _≤_}
+use Prim.Native.Nat.{ℕ, _+_, _*_, _-_, _/_, _≤_}
 use native.Mathlib.Nat.{zero-mul}
 use native.Mathlib.Omega.{arith}
 use lib.ListN.{length, take, drop, length-append, length-drop, take-append-drop}
@@ -22,10 +22,11 @@ use Rattle.packet.specs.declared.Form.{Form}
 use Rattle.packet.specs.declared.Form.the-variants.{Frequencies}
 use Rattle.packet.specs.declared.Fields.{Fields}
 use Rattle.packet.specs.declared.Opened.{Opened}
-use Rattle.packet.specs.Table.{formOf, typeOf, rowOf, countLine, contentLines, code, ending, packet}
+use Rattle.packet.specs.Table.{formOf, typeOf, contentBytes, rowOf, countLine, contentLines, code, ending, packet}
 use Rattle.packet.specs.Content.{formFor, numbersOf, numbersIn, countFor, noSuchDay}
 use Rattle.packet.specs.Reading.{kindIn, codesIn, formIn, contentAt, contentSize, countOf, partAt, tableOf, valuesIn, numbersAt, frontIn, bodyIn, backIn, contentIn, digitsIn, zeros, padded, codesOf, hasEntries, fieldsOf, isUnknown, readAnswer, openedBy, opened, partBy, bodyOf}
-use Rattle.packet.specs.Writing.{rowFor, digitsBefore, digitsAfter, frontFor, backFor, bodyFor, sizeFor, tableFor, numbersFor, valuesFor, bytesFor, lentBad, countBad, digitBad, otherType, bodyLost, digitsLost, notTaken, writtenAnswer, outputBy, outputOf}
+use Rattle.packet.specs.Writing.{rowFor, digitsBefore, digitsAfter, frontFor, backFor, bodyFor, sizeFor, tableFor, numbersFor, valuesFor, bytesFor, lentBad, countBad, digitBad, otherType, bodyLost, digitsLost, notTaken, writtenAnswer, writtenBy, written, outputBy, packetOutput}
+use Rattle.packet.proofs.Accepted.{Accepted, accepted}
 use Rattle.packet.proofs.Forms as forms
 use Rattle.packet.proofs.Sizes.{content-size}
 use Rattle.trips.proofs.Parts as parts
@@ -34,8 +35,10 @@ use Rattle.trips.proofs.Octets.{octets-at, run-bytes}
 use Rattle.trips.proofs.Taken.{octet-size}
 use Rattle.trips.proofs.Padded.{padded-is, take-padded, rest-zeros, inside-append, wider}
 use Rattle.trips.proofs.EachKind.{form-of, numbers-back, count-for, numbers-few, places, front-digits, back-digits, unmet-26}
-use Rattle.trips.proofs.Accepted.{Accepted, accepted, of-count, code-26, ending-26, heading, count-26, settled-table, table-25, digits-of, later-true, only-none, lent-right, body-right, entries-few, entries-count}
+use Rattle.trips.proofs.Accepted.{of-count, code-26, ending-26, heading, count-26, settled-table, table-25, digits-of, later-true, only-none, lent-right, body-right, entries-few, entries-count}
 use Rattle.trips.proofs.Fitting.{nil-of}
+use Rattle.trips.proofs.Answers.{read-answer, write-answer}
+use Rattle.trips.specs.Given.{lentCodes, lentBody}
 
 module _ (b : List ℕ) (z : Accepted b) where
   form-is : formFor (contentIn b) ≡ formIn b
@@ -63,7 +66,7 @@ module _ (b : List ℕ) (z : Accepted b) where
   size-is : sizeFor (fieldsOf b) (bodyIn b) ≡ length b
   unfolding sizeFor fieldsOf
   size-is =
-      let e : size (contentLines (rowFor (contentIn b)) (countFor (contentIn b) (bodyIn b))) ≡ 8 * contentSize b = ap₂ (λ (g : Form) (k : ℕ). size (contentLines (rowOf g) k)) form-is count-is ∙ z .right in
+      let e : contentBytes (formFor (contentIn b)) (countFor (contentIn b) (bodyIn b)) ≡ contentSize b = ap₂ contentBytes form-is count-is ∙ z .bytes in
       omega (arith, e, z .least)
 
   table-is : tableFor (fieldsOf b) (bodyIn b) ≡ tableOf b
@@ -274,21 +277,6 @@ module _ (b : List ℕ) (z : Accepted b) where
           sym (ap₂ (λ (T : List Line) (x : ℕ). numbersAt (times k T) b x) r1 p ∙ octets-at b k (8 * s) ∙ run-bytes b s k u i)
 
 -- ---- the theorem
--- what a writer is lent for what a reader opened: as many digits as there are codes, and the entries, or the part that is the body
-abbrev pub lentCodes : Opened → List ℕ
-lentCodes o = take (o .fields .codes * 23) (o .codes)
-
-abbrev pub lentBody : Opened → List ℕ → List ℕ
-lentBody o part = cond (hasEntries (formFor (o .fields .content))) (take (countFor (o .fields .content) [] * 8) (o .entries)) part
-
-pub answer-of : (b : List ℕ) → opened b .answer ≡ 0 → readAnswer b ≡ 0
-unfolding opened
-answer-of b e = go (readAnswer b) e
-  where
-    go : (a : ℕ) → openedBy a b .answer ≡ 0 → a ≡ 0
-    go zero h = refl
-    go (suc a) h = h
-
 module _ (b : List ℕ) (u : Under 256 b) (e : readAnswer b ≡ 0) where
   acc : Accepted b
   acc = accepted b e
@@ -320,21 +308,28 @@ module _ (b : List ℕ) (u : Under 256 b) (e : readAnswer b ≡ 0) where
           if-no (take (countFor (contentIn b) [] * 8) (padded 272 (cond (hasEntries (formIn b)) (bodyIn b) []))) _ c1
           ∙ ap (λ (n : ℕ). take n (drop (3 + 12 * codesIn b + partAt (rowOf (formIn b)) / 8) b)) (if-no 0 (countOf b) h) ∙ part-lent b acc u h
 
--- every packet that a reader accepts, but type 1 with codes, is written back byte for byte from what was read; the rest of the output stays
-pub bytes-come-back : (b out : List ℕ) → Under 256 b → opened b .answer ≡ 0 → length b ≤ length out → (kindIn b ≡ 1 → codesIn b ≡ 0)
-    → (writtenAnswer (opened b .fields) (lentCodes (opened b)) (lentBody (opened b) (bodyOf b)) (length out) ≡ 0)
-    × (outputOf (opened b .fields) (lentCodes (opened b)) (lentBody (opened b) (bodyOf b)) out ≡ b ++ drop (length b) out)
-unfolding outputOf
+-- Every packet that a reader accepts, but type 1 with codes, is written back byte for byte from what was read, its length handed back; the rest of the
+-- output stays.
+pub bytes-come-back : (b out : List ℕ) → Under 256 b → opened b .answer ≡ 0 → length b ≤ length out → (opened b .fields .kind ≡ 1 → opened b .fields .codes ≡ 0)
+    → (written (opened b .fields) (lentCodes (opened b)) (lentBody (opened b) (bodyOf b)) (length out) ≡ record { answer = 0; length = length b })
+    × (packetOutput (opened b .fields) (lentCodes (opened b)) (lentBody (opened b) (bodyOf b)) out ≡ b ++ drop (length b) out)
+unfolding written packetOutput fieldsOf
 bytes-come-back b out u e r h =
-    let a = answer-of b e in
+    let a = sym (read-answer b) ∙ e in
     let z = acc b u a in
-    let w = ap₂ (λ (f : Fields) (c : List ℕ). writtenAnswer f c (lentBody (opened b) (bodyOf b)) (length out)) (fields-are b u a) (lent-codes b u a) ∙ ap (λ (y : List ℕ). writtenAnswer (fieldsOf b) (codesOf b) y (length out)) (lent-body b u a) ∙ answer-is b z (length out) r h in
+    let g : kindIn b ≡ 1 → codesIn b ≡ 0 = λ k. sym (ap (λ (f : Fields). f .codes) (fields-are b u a)) ∙ h (ap (λ (f : Fields). f .kind) (fields-are b u a) ∙ k) in
+    let w = ap₂ (λ (f : Fields) (c : List ℕ). writtenAnswer f c (lentBody (opened b) (bodyOf b)) (length out)) (fields-are b u a) (lent-codes b u a) ∙ ap (λ (y : List ℕ). writtenAnswer (fieldsOf b) (codesOf b) y (length out)) (lent-body b u a) ∙ answer-is b z (length out) r g in
+    let n = ap₂ sizeFor (fields-are b u a) (lent-body b u a) ∙ size-is b z in
     let v = ap₂ (λ (f : Fields) (c : List ℕ). bytesFor f c (lentBody (opened b) (bodyOf b))) (fields-are b u a) (lent-codes b u a) ∙ ap (λ (y : List ℕ). bytesFor (fieldsOf b) (codesOf b) y) (lent-body b u a) ∙ bytes-is b z u in
-    (w, ap₂ (λ (n : ℕ) (xs : List ℕ). outputBy n xs out) w v)
+    (ap₂ writtenBy w n, ap₂ (λ (m : ℕ) (xs : List ℕ). outputBy m xs out) w v)
 
--- the exception of demand 2: type 1 with codes is read, and the writer answers 27
-pub codes-refused : (b : List ℕ) (room : ℕ) → Under 256 b → opened b .answer ≡ 0 → kindIn b ≡ 1 → (codesIn b ≡ 0 → ⊥)
-    → writtenAnswer (opened b .fields) (lentCodes (opened b)) (lentBody (opened b) (bodyOf b)) room ≡ 27
+-- The exception of demand 2: type 1 with codes is read, and the writer answers 27.
+pub codes-refused : (b : List ℕ) (room : ℕ) → Under 256 b → opened b .answer ≡ 0 → opened b .fields .kind ≡ 1 → (opened b .fields .codes ≡ 0 → ⊥)
+    → written (opened b .fields) (lentCodes (opened b)) (lentBody (opened b) (bodyOf b)) room .answer ≡ 27
+unfolding fieldsOf
 codes-refused b room u e k n =
-    let a = answer-of b e in
-    ap₂ (λ (f : Fields) (c : List ℕ). writtenAnswer f c (lentBody (opened b) (bodyOf b)) room) (fields-are b u a) (lent-codes b u a) ∙ ap (λ (y : List ℕ). writtenAnswer (fieldsOf b) (codesOf b) y room) (lent-body b u a) ∙ refused-is b (acc b u a) room k n
+    let a = sym (read-answer b) ∙ e in
+    let f = fields-are b u a in
+    write-answer (opened b .fields) (lentCodes (opened b)) (lentBody (opened b) (bodyOf b)) room
+    ∙ ap₂ (λ (f : Fields) (c : List ℕ). writtenAnswer f c (lentBody (opened b) (bodyOf b)) room) f (lent-codes b u a) ∙ ap (λ (y : List ℕ). writtenAnswer (fieldsOf b) (codesOf b) y room) (lent-body b u a)
+    ∙ refused-is b (acc b u a) room (sym (ap (λ (f : Fields). f .kind) f) ∙ k) (λ z. n (ap (λ (f : Fields). f .codes) f ∙ z))

@@ -1,29 +1,39 @@
--- Time and signature are never judged: packets that differ in nothing else have the same answer. Assumes nothing.
+-- Time and signature are never judged: packets that differ in nothing else have the same answer, and the rest of what is read is the same. Assumes nothing.
 use mathlib.Core.Path.{_≡_, refl, sym, ap, ap₂, _∙_}
 use mathlib.Core.List.{List, [], _∷_, _++_, append-assoc}
 use mathlib.Core.Logic.{_⊎_, inl, inr}
-use mathlib.Core.Bool.{Bool, true, false, not, _&&_, _||_}
-use Prim.Native.Nat.{ℕ, _+_, _*_, _-_, _≤_, _<_}
+use mathlib.Core.Bool.{Bool, true, false, not, _&&_, _||_, cond}
+use Prim.Native.Nat.{ℕ, zero, suc, _+_, _*_, _-_, _/_, _≤_, _<_}
 use native.Mathlib.Omega.{arith}
-use lib.ListN.{length, take, drop, length-drop, take-append-drop}
-use lib.Seq.{length-take-le}
-use lib.Dec.{leb, eqb}
+use lib.ListN.{length, take, drop, length-append, length-drop, take-append-drop}
+use lib.Seq.{length-take-le, take-at, drop-at, take-append-le, drop-append-le}
+use lib.Dec.{leb, ltb, eqb}
 use borrow.Author.Tests.{leb-true, leb-false, eqb-true, ne-eqb, not-false}
 use Rattle.laws.specs.Bits.{at, run, bits}
 use Rattle.laws.specs.Refusals.{first}
 use Rattle.laws.proofs.Bits.{at-left, run-left, run-right, length-spread, spread-append}
-use Rattle.laws.proofs.Cases.{and-both, and-no}
+use Rattle.laws.proofs.Cases.{and-both, or-both, and-no}
 use Rattle.laws.proofs.Elements.{by-test}
 use Rattle.laws.proofs.Refusals.{stop, pass}
 use Rattle.format.specs.declared.Line.{Line}
-use Rattle.format.specs.Format.{just, size, times, decode, flat, fine}
-use Rattle.format.proofs.Tables.{size-append, size-times, fine-append}
+use Rattle.format.specs.Format.{just, size, times, decode, flat, need, fill, inside, fine}
+use Rattle.format.proofs.Tables.{size-append, size-times, need-append, fine-append, fine-join, fill-join, length-fill}
 use Rattle.packet.specs.declared.Form.{Form}
 use Rattle.packet.specs.declared.Form.the-variants.{Frequencies, Address, Keep, Clock, Reset, Factory, Drill, Text, Command, Hold, Raw, Unknown}
-use Rattle.packet.specs.Table.{Row, formOf, rowOf, countIn, contentLines, code, ending, packet}
-use Rattle.packet.specs.Content.{contentOf, noSuchDay}
-use Rattle.packet.specs.Reading.{kindIn, lengthIn, codesIn, formIn, contentAt, contentSize, countOf, partAt, tableOf, valuesIn, frontIn, sizeBad, lengthBad, isUnknown, fieldBad, readCases, readAnswer}
-use Rattle.packet.proofs.Sizes.{countSize, count-size, content-size}
+use Rattle.packet.specs.Table.{Row, formOf, contentBytes, rowOf, countIn, contentLines, code, ending, packet}
+use Rattle.packet.specs.declared.Fields.{Fields}
+use Rattle.packet.specs.declared.Content.{Content}
+use Rattle.packet.specs.declared.Content.the-variants as content
+use Rattle.packet.specs.Content.{contentOf, numbersIn, countFor, noSuchDay}
+use Rattle.packet.specs.Reading.{kindIn, lengthIn, codesIn, formIn, contentAt, contentSize, countOf, partAt, tableOf, valuesIn, numbersAt, frontIn, bodyIn, backIn, contentIn, digitsIn, zeros, padded, codesOf, hasEntries, fieldsOf, sizeBad, lengthBad, isUnknown, fieldBad, readCases, readAnswer, openedBy, opened, partBy, bodyOf, textAnswer, textOf}
+use Rattle.packet.specs.Writing.{rowFor, frontFor, backFor, bodyFor, sizeFor, tableFor, numbersFor, valuesFor, lentBad, countBad, digitBad, otherType, bodyLost, digitsLost, notTaken, writtenAnswer, writtenBy, written}
+use Rattle.packet.proofs.Sizes.{countSize, count-size, content-size, column}
+use Rattle.packet.proofs.Accepted.{Accepted, accepted, right-size, body-inside, later, later-not, text-later, text-there}
+use Rattle.packet.proofs.Refused.{no-part}
+use Rattle.trips.proofs.Text.{is-body}
+use Rattle.trips.specs.Given.{Alike, signed, unsigned}
+use Rattle.trips.proofs.Parts.{size-code, need-code, content-need}
+use Rattle.trips.proofs.Taken.{front-long, back-long}
 
 -- ---- lines that end before the bits u do are read from u alone
 decode-left : (ts : List Line) (u l : List ℕ) (p : ℕ) → p + size ts ≤ length u → decode ts (u ++ l) p ≡ decode ts u p
@@ -180,7 +190,7 @@ module _ (b c : List ℕ) (long : length b ≡ length c)
           let n = at-least (rowOf (formIn x)) (countOf x) in
           let w : size (rowOf (formIn x) .before) ≡ size (rowOf (formIn b) .before) = ap (λ (g : Form). size (rowOf g .before)) f in
           let y : countSize (rowOf (formIn x) .sort) ≡ 8 = ap (λ (g : Form). countSize (rowOf g .sort)) f ∙ e in
-          ap not (ne-eqb (size (contentLines (rowOf (formIn x)) (countOf x))) (8 * contentSize x) (λ z. omega arith))
+          ap not (ne-eqb (contentBytes (formIn x) (countOf x)) (contentSize x) (λ (z : contentBytes (formIn x) (countOf x) ≡ contentSize x). omega (arith, column (formIn x) (countOf x))))
 
       -- so the counts are the same, or both lengths are wrong
       counts : (countOf b ≡ countOf c) ⊎ ((lengthBad b ≡ true) × (lengthBad c ≡ true))
@@ -201,8 +211,7 @@ module _ (b c : List ℕ) (long : length b ≡ length c)
         same-length : lengthBad b ≡ lengthBad c
         unfolding lengthBad
         same-length =
-            ap₂ (λ (f : Form) (n : ℕ). not (eqb (size (contentLines (rowOf f) n)) (8 * contentSize b))) form count
-            ∙ ap (λ (m : ℕ). not (eqb (size (contentLines (rowOf (formIn c)) (countOf c))) (8 * m))) content-alike
+            ap₂ (λ (f : Form) (n : ℕ). not (eqb (contentBytes f n) (contentSize b))) form count ∙ ap (λ (m : ℕ). not (eqb (contentBytes (formIn c) (countOf c)) m)) content-alike
 
         same-table : tableOf b ≡ tableOf c
         unfolding tableOf
@@ -212,8 +221,7 @@ module _ (b c : List ℕ) (long : length b ≡ length c)
 
         module _ (l : lengthBad b ≡ false) where
           content-long : size (contentLines (rowOf (formIn b)) (countOf b)) ≡ 8 * contentSize b
-          unfolding lengthBad
-          content-long = eqb-true _ _ (not-false _ l)
+          content-long = right-size b l
 
           -- no line that is due a number is other
           same-fine : (a : ℕ) → eqb 0 a ≡ false → fine a (tableOf b) (valuesIn b) ≡ fine a (tableOf c) (valuesIn c)
@@ -282,10 +290,9 @@ module _ (b c : List ℕ) (long : length b ≡ length c)
       lt-leb : (x : List ℕ) → length x < 77 → leb 77 (length x) ≡ false
       lt-leb x h = by-test (leb 77 (length x)) (λ t. absurd (omega (arith, leb-true 77 (length x) t))) (λ t. t)
 
-  -- Packets of one length with the same bytes but for the time's four and the signature's 64 have the same answer: nothing there is ever judged.
-  pub never-judged : readAnswer b ≡ readAnswer c
+  same-answer : readAnswer b ≡ readAnswer c
   unfolding readAnswer
-  never-judged =
+  same-answer =
       by-test (leb 77 (length b))
       (λ t.
       let h = leb-true 77 (length b) t in
@@ -295,3 +302,242 @@ module _ (b c : List ℕ) (long : length b ≡ length c)
       (λ t.
       let h = leb-false 77 (length b) t in
       stop 20 _ (short-bad b (omega arith)) ∙ sym (stop 20 _ (short-bad c (omega arith))))
+
+  -- ---- what is read of them, where they are accepted
+  module _ (z : Accepted b) (y : Accepted c) where
+    tall : 77 ≤ length b
+    tall = omega (arith, z .least)
+
+    same-form : formIn b ≡ formIn c
+    same-form = form tall
+
+    same-codes : codesIn b ≡ codesIn c
+    same-codes = codes tall
+
+    ended : contentAt b + size (contentLines (rowOf (formIn b)) (countOf b)) ≡ 8 * k
+    ended = omega (arith, z .right, z .least)
+
+    counts-alike : countOf b ≡ countOf c
+    unfolding countOf
+    counts-alike =
+        let n = at-least (rowOf (formIn b)) (countOf b) in
+        let w = ended in
+        by-count (counted (formIn b)) n w
+        ∙ ap (λ (f : Form). countIn (rowOf f) (bits c) (contentAt b) (contentSize b)) same-form
+        ∙ ap₂ (λ (n m : ℕ). countIn (rowOf (formIn c)) (bits c) (24 + 96 * n) m) same-codes (ap₂ (λ (p n : ℕ). p - 77 - 12 * n) long same-codes)
+      where
+        by-count : (countSize (rowOf (formIn b) .sort) ≡ 8) ⊎ ((l m : List ℕ) (q n : ℕ) → countIn (rowOf (formIn b)) l q n ≡ countIn (rowOf (formIn b)) m q n)
+            → size (rowOf (formIn b) .before) + countSize (rowOf (formIn b) .sort) ≤ size (contentLines (rowOf (formIn b)) (countOf b))
+            → contentAt b + size (contentLines (rowOf (formIn b)) (countOf b)) ≡ 8 * k
+            → countIn (rowOf (formIn b)) (bits b) (contentAt b) (contentSize b) ≡ countIn (rowOf (formIn b)) (bits c) (contentAt b) (contentSize b)
+        by-count (inr g) n w = g (bits b) (bits c) (contentAt b) (contentSize b)
+        by-count (inl e) n w = same-count (formIn b) (bits b) (bits c) (contentAt b) (contentSize b) (same-at (contentAt b + size (rowOf (formIn b) .before)) 8 (omega arith))
+
+    -- lines that end before the time does give the same numbers
+    same-numbers : (ts : List Line) (p : ℕ) → p + size ts ≤ 8 * k → numbersAt ts b p ≡ numbersAt ts c p
+    same-numbers ts p h = ap (flat ts) (same-lines ts p h)
+
+    parts-in : (size (rowOf (formIn b) .before) ≤ size (contentLines (rowOf (formIn b)) (countOf b)))
+        × (partAt (rowOf (formIn b)) + size (times (countOf b) (rowOf (formIn b) .each)) ≤ size (contentLines (rowOf (formIn b)) (countOf b)))
+        × (partAt (rowOf (formIn b)) + countOf b * size (rowOf (formIn b) .each) + size (rowOf (formIn b) .after) ≤ size (contentLines (rowOf (formIn b)) (countOf b)))
+    parts-in =
+        let n = content-size (rowOf (formIn b)) (countOf b) in
+        let m = size-times (countOf b) (rowOf (formIn b) .each) in
+        let w = at-least (rowOf (formIn b)) (countOf b) in
+        (omega arith, omega arith, omega arith)
+
+    fronts : frontIn b ≡ frontIn c
+    unfolding frontIn
+    fronts =
+        let e = ended in
+        let i = parts-in .0 in
+        same-numbers (rowOf (formIn b) .before) (contentAt b) (omega arith)
+        ∙ ap₂ (λ (f : Form) (n : ℕ). numbersAt (rowOf f .before) c (24 + 96 * n)) same-form same-codes
+
+    bodies : bodyIn b ≡ bodyIn c
+    unfolding bodyIn
+    bodies =
+        let e = ended in
+        let i = parts-in .1 in
+        same-numbers (times (countOf b) (rowOf (formIn b) .each)) (contentAt b + partAt (rowOf (formIn b))) (omega arith)
+        ∙ ap₂ (λ (f : Form) (n : ℕ). numbersAt (times (countOf b) (rowOf f .each)) c (24 + 96 * n + partAt (rowOf f))) same-form same-codes
+        ∙ ap (λ (n : ℕ). numbersAt (times n (rowOf (formIn c) .each)) c (contentAt c + partAt (rowOf (formIn c)))) counts-alike
+
+    backs : backIn b ≡ backIn c
+    unfolding backIn
+    backs =
+        let e = ended in
+        let i = parts-in .2 in
+        same-numbers (rowOf (formIn b) .after) (contentAt b + (partAt (rowOf (formIn b)) + countOf b * size (rowOf (formIn b) .each))) (omega arith)
+        ∙ ap₂ (λ (f : Form) (n : ℕ). numbersAt (rowOf f .after) c (24 + 96 * n + (partAt (rowOf f) + countOf b * size (rowOf f .each)))) same-form same-codes
+        ∙ ap (λ (n : ℕ). numbersAt (rowOf (formIn c) .after) c (contentAt c + (partAt (rowOf (formIn c)) + n * size (rowOf (formIn c) .each)))) counts-alike
+
+    all-codes : codesOf b ≡ codesOf c
+    unfolding codesOf
+    all-codes =
+        let s : size (times (codesIn b) code) ≡ 96 * codesIn b = size-code (codesIn b) in
+        same-numbers (times (codesIn b) code) 24 (omega (arith, z .least)) ∙ ap (λ (n : ℕ). numbersAt (times n code) c 24) same-codes
+
+    contents : contentIn b ≡ contentIn c
+    contents = ap₂ (λ (f : Form) (xs : List ℕ). contentOf f xs (countOf b)) same-form fronts ∙ ap (contentOf (formIn c) (frontIn c)) counts-alike
+
+    digits : digitsIn b ≡ digitsIn c
+    digits = ap₂ (λ (f : Form) (xs : List ℕ). drop (numbersIn f) xs ++ backIn b) same-form fronts ∙ ap (λ (xs : List ℕ). drop (numbersIn (formIn c)) (frontIn c) ++ xs) backs
+
+    certificates : run (bits b) (8 * (length b - 70)) 12 4 ≡ run (bits c) (8 * (length c - 70)) 12 4
+    certificates =
+        let p : 8 * (length b - 70) ≡ 8 * k + 32 = omega (arith, z .least) in
+        ap (λ (q : ℕ). run (bits b) q 12 4) p ∙ same-digits tall ∙ ap (λ (q : ℕ). run (bits c) q 12 4) (sym p) ∙ ap (λ (n : ℕ). run (bits c) (8 * (n - 70)) 12 4) long
+
+    fields-alike : signed (fieldsOf b) 0 (zeros 64) ≡ signed (fieldsOf c) 0 (zeros 64)
+    unfolding fieldsOf
+    fields-alike = rw (contents, digits, certificates, kind tall, same-codes)
+
+    opened-alike : unsigned (openedBy 0 b) ≡ unsigned (openedBy 0 c)
+    opened-alike =
+        ap₂ (λ (f : Fields) (xs : List ℕ). record { answer = 0; fields = f; codes = padded 322 xs; entries = padded 272 (cond (hasEntries (formIn b)) (bodyIn b) []) }) fields-alike all-codes
+        ∙ ap₂ (λ (f : Form) (xs : List ℕ). record { answer = 0; fields = signed (fieldsOf c) 0 (zeros 64); codes = padded 322 (codesOf c); entries = padded 272 (cond (hasEntries f) xs []) }) same-form bodies
+
+-- a part that ends before the others differ
+same-part : (n from m : ℕ) (b c : List ℕ) → take n b ≡ take n c → n ≤ length b → n ≤ length c → from + m ≤ n → take m (drop from b) ≡ take m (drop from c)
+same-part n from m b c e hb hc h = one b hb ∙ ap (λ (l : List ℕ). take m (drop from l)) e ∙ sym (one c hc)
+  where
+    one : (x : List ℕ) → n ≤ length x → take m (drop from x) ≡ take m (drop from (take n x))
+    one x g =
+        let l = length-take-le n x g in
+        ap (λ (y : List ℕ). take m (drop from y)) (sym (take-append-drop n x))
+        ∙ ap (take m) (drop-append-le from (take n x) (drop n x) (omega arith))
+        ∙ take-append-le m (drop from (take n x)) (drop n x) (omega (arith, length-drop from (take n x)))
+
+-- Of packets of one length with the same bytes but for the time's four and the signature's 64, the reader gives the same answer and the same of all that is
+-- read but time and signature, the same body and the same text with the same number: nothing there is ever judged.
+pub never-judged : (b c : List ℕ) → Alike b c → (unsigned (opened b) ≡ unsigned (opened c)) × (bodyOf b ≡ bodyOf c) × (textAnswer b ≡ textAnswer c) × (textOf b ≡ textOf c)
+unfolding opened bodyOf textOf
+never-judged b c w = (go (readAnswer b) refl, body (readAnswer b) refl, text (readAnswer b) refl, texts (textAnswer b) refl)
+  where
+    e : readAnswer b ≡ readAnswer c
+    e = same-answer b c (w .long) (w .front) (w .certificate)
+
+    go : (a : ℕ) → readAnswer b ≡ a → unsigned (opened b) ≡ unsigned (opened c)
+    go zero h =
+        let i = sym e ∙ h in
+        ap (λ (n : ℕ). unsigned (openedBy n b)) h ∙ opened-alike b c (w .long) (w .front) (w .certificate) (accepted b h) (accepted c i) ∙ sym (ap (λ (n : ℕ). unsigned (openedBy n c)) i)
+    go (suc a) h = ap (λ (n : ℕ). unsigned (openedBy n b)) h ∙ sym (ap (λ (n : ℕ). unsigned (openedBy n c)) (sym e ∙ h))
+
+    text : (a : ℕ) → readAnswer b ≡ a → textAnswer b ≡ textAnswer c
+    text zero h =
+        let t = tall b c (w .long) (w .front) (w .certificate) (accepted b h) (accepted c (sym e ∙ h)) in
+        text-later b ∙ ap₂ (λ (n m : ℕ). later n (not (eqb m 15))) e (kind b c (w .long) (w .front) (w .certificate) t) ∙ sym (text-later c)
+    text (suc a) h =
+        let n : (x : List ℕ) → readAnswer x ≡ suc a → textAnswer x ≡ suc a = λ x r. text-later x ∙ later-not (readAnswer x) (not (eqb (kindIn x) 15)) (λ (z : readAnswer x ≡ 0). let y = sym r ∙ z in omega arith) ∙ r in
+        n b h ∙ sym (n c (sym e ∙ h))
+
+    -- where both are accepted: the same place and the same count, before the time
+    body : (a : ℕ) → readAnswer b ≡ a → bodyOf b ≡ bodyOf c
+    body (suc a) h = no-part (readAnswer b) _ _ b (λ (z : readAnswer b ≡ 0). let y = sym h ∙ z in omega arith) ∙ sym (no-part (readAnswer c) _ _ c (λ (z : readAnswer c ≡ 0). let y = sym (sym e ∙ h) ∙ z in omega arith))
+    body zero h =
+        let i = sym e ∙ h in
+        let z = accepted b h in
+        let y = accepted c i in
+        let f = same-form b c (w .long) (w .front) (w .certificate) z y in
+        let n = same-codes b c (w .long) (w .front) (w .certificate) z y in
+        let m = counts-alike b c (w .long) (w .front) (w .certificate) z y in
+        let from = 3 + 12 * codesIn b + partAt (rowOf (formIn b)) / 8 in
+        let many = cond (hasEntries (formIn b)) 0 (countOf b) in
+        ap (λ (a : ℕ). partBy a from many b) h
+        ∙ same-part (length b - 74) from many b c (w .front) (omega arith) (omega (arith, w .long)) (omega (arith, body-inside b z))
+        ∙ ap₂ (λ (g : Form) (k : ℕ). take (cond (hasEntries g) 0 (countOf b)) (drop (3 + 12 * k + partAt (rowOf g) / 8) c)) f n
+        ∙ ap (λ (k : ℕ). take (cond (hasEntries (formIn c)) 0 k) (drop (3 + 12 * codesIn c + partAt (rowOf (formIn c)) / 8) c)) m
+        ∙ sym (ap (λ (a : ℕ). partBy a (3 + 12 * codesIn c + partAt (rowOf (formIn c)) / 8) (cond (hasEntries (formIn c)) 0 (countOf c)) c) i)
+
+    texts : (a : ℕ) → textAnswer b ≡ a → textOf b ≡ textOf c
+    texts (suc a) h =
+        let i = sym (text (readAnswer b) refl) ∙ h in
+        no-part (textAnswer b) _ _ b (λ (z : textAnswer b ≡ 0). let y = sym h ∙ z in omega arith) ∙ sym (no-part (textAnswer c) _ _ c (λ (z : textAnswer c ≡ 0). let y = sym i ∙ z in omega arith))
+    texts zero h =
+        let i = sym (text (readAnswer b) refl) ∙ h in
+        let x = text-there b h in
+        let y = text-there c i in
+        is-body b (x .0) (x .1) ∙ body (readAnswer b) refl ∙ sym (is-body c (y .0) (y .1))
+
+-- ---- the writer
+-- as many of what is lent as the content counts, where the count is right
+body-long : (c : Content) (body : List ℕ) → lentBad (rowFor c .sort) (countFor c body) (need (rowFor c .each)) body ≡ false → length (bodyFor c body) ≡ countFor c body * need (rowFor c .each)
+unfolding bodyFor need
+body-long content.Raw body a = length-take-le (length body * 1) body (omega arith)
+body-long (content.Frequencies k) body a = length-take-le (k * 8) body (omega (arith, eqb-true (length body) (k * 8) (and-both (leb k 255) (eqb (length body) (k * 8)) (not-false _ a) .1)))
+body-long (content.Address m) body a = length-take-le (m * 1) body (omega (arith, eqb-true (length body) (m * 1) (and-both (leb m 255) (eqb (length body) (m * 1)) (not-false _ a) .1)))
+body-long (content.Keep on period) body a = refl
+body-long (content.Clock year month day hour minute second) body a = refl
+body-long (content.Reset change) body a = refl
+body-long content.Factory body a = refl
+body-long (content.Drill action) body a = refl
+body-long (content.Text kind set t) body a = length-take-le (t * 1) body (omega (arith, eqb-true (length body) (t * 1) (and-both (leb t 255) (eqb (length body) (t * 1)) (not-false _ a) .1)))
+body-long (content.Command k) body a = length-take-le (k * 1) body (omega (arith, eqb-true (length body) (k * 1) (and-both (leb k 255) (eqb (length body) (k * 1)) (not-false _ a) .1)))
+body-long (content.Hold serial) body a = refl
+
+ending-values : (x : ℕ) (v y : List ℕ) → length v ≡ 12 → fill ending (x ∷ (v ++ y)) ≡ (x ∷ []) ∷ v ∷ take 64 y ∷ []
+unfolding fill
+ending-values x v y h = ap₂ (λ (p q : List ℕ). (x ∷ []) ∷ p ∷ take 64 q ∷ []) (take-at v y 12 h) (drop-at v y 12 h)
+
+-- the numbers before the ending, of fields whose counts are right
+module _ (f : Fields) (codes body : List ℕ) (digits-long : length (f .digits) ≡ 35) (certificate-long : length (f .certificate) ≡ 12) (t : ℕ) (s : List ℕ) where
+  abbrev H : List Line
+  H = above (rowFor (f .content)) (f .kind) (sizeFor f body) (f .codes) (countFor (f .content) body)
+
+  abbrev front : List ℕ
+  front = codes ++ (frontFor (f .content) (f .digits) ++ (bodyFor (f .content) body ++ backFor (f .content) (f .digits)))
+
+  front-need : countBad f codes body ≡ false → length front ≡ need H
+  unfolding countBad need
+  front-need e =
+      let c = f .content in
+      let x = or-both (not (leb (f .codes) 255 && eqb (length codes) (f .codes * 23))) _ e in
+      let n = eqb-true (length codes) (f .codes * 23) (and-both (leb (f .codes) 255) (eqb (length codes) (f .codes * 23)) (not-false _ (x .0)) .1) in
+      let F = frontFor c (f .digits) in
+      let B = bodyFor c body in
+      let K = backFor c (f .digits) in
+      omega (arith, length-append codes (F ++ (B ++ K)), length-append F (B ++ K), length-append B K, n, front-long c (f .digits) digits-long, body-long c body (x .1), back-long c (f .digits) digits-long, need-append (times (f .codes) code) (contentLines (rowFor c) (countFor c body)), need-code (f .codes), content-need (rowFor c) (countFor c body))
+
+  -- the lines of any fields like these, tested for an answer
+  split : countBad f codes body ≡ false → (a : ℕ) (x : ℕ) (y : List ℕ)
+      → fine a (tableFor f body) (valuesFor (signed f x y) codes body) ≡ (fine a H (fill H front) && fine a ending ((x ∷ []) ∷ f .certificate ∷ take 64 y ∷ []))
+  unfolding tableFor numbersFor sizeFor
+  split e a x y =
+      let c = f .content in
+      let F = frontFor c (f .digits) in
+      let B = bodyFor c body in
+      let K = backFor c (f .digits) in
+      let z = x ∷ (f .certificate ++ y) in
+      let re : codes ++ (F ++ (B ++ (K ++ z))) ≡ front ++ z = sym (append-assoc codes (F ++ (B ++ K)) z ∙ ap (λ (l : List ℕ). codes ++ l) (append-assoc F (B ++ K) z ∙ ap (λ (l : List ℕ). F ++ l) (append-assoc B K z))) in
+      ap₂ (λ (T : List Line) (l : List ℕ). fine a T (fill T l)) (above-ending (rowFor c) (f .kind) (sizeFor f body) (f .codes) (countFor c body)) re
+      ∙ ap (fine a (H ++ ending)) (fill-join H ending front z (front-need e))
+      ∙ fine-join a H ending (fill H front) (fill ending z) (length-fill H front)
+      ∙ ap (λ (v : List (List ℕ)). fine a H (fill H front) && fine a ending v) (ending-values x (f .certificate) y certificate-long)
+
+  lines-alike : countBad f codes body ≡ false → (a : ℕ) → eqb 0 a ≡ false → fine a (tableFor f body) (valuesFor f codes body) ≡ fine a (tableFor f body) (valuesFor (signed f t s) codes body)
+  lines-alike e a z =
+      split e a (f .time) (f .signature)
+      ∙ ap (λ (x : Bool). fine a H (fill H front) && x) (ends-alike a (f .time ∷ []) (take 64 (f .signature)) (t ∷ []) (f .certificate) (take 64 s) z)
+      ∙ sym (split e a t s)
+
+  answers-alike : (room : ℕ) → writtenAnswer f codes body room ≡ writtenAnswer (signed f t s) codes body room
+  unfolding writtenAnswer countBad digitBad notTaken tableFor sizeFor
+  answers-alike room =
+      by-test (isUnknown (formOf (f .kind)))
+      (λ x. stop 23 _ x ∙ sym (stop 23 _ x))
+      (λ x.
+      by-test (countBad f codes body)
+      (λ y. pass 23 _ x ∙ stop 26 _ y ∙ sym (pass 23 _ x ∙ stop 26 _ y))
+      (λ y.
+      let p = lines-alike y 25 refl in
+      let q = lines-alike y 27 refl in
+      ap₂ (λ (u v : Bool). first ((isUnknown (formOf (f .kind)), 23) ∷ (countBad f codes body, 26) ∷ (not u || not (inside 0 9 (f .digits)), 25)
+      ∷ (otherType f || (bodyLost (rowFor (f .content) .sort) body || (digitsLost (f .content) (f .digits) || ((eqb (f .kind) 1 && not (eqb (f .codes) 0)) || (not v || noSuchDay (f .content))))), 27)
+      ∷ (ltb 250 (sizeFor f body), 20) ∷ (ltb room (sizeFor f body), 10) ∷ [])) p q))
+
+-- Fields that differ only in time and signature have the same answer and length from the writer, whatever codes, body and room are lent.
+pub never-judged-written : (f : Fields) (time : ℕ) (signature codes body : List ℕ) (room : ℕ) → length (f .digits) ≡ 35 → length (f .certificate) ≡ 12
+    → written f codes body room ≡ written (signed f time signature) codes body room
+unfolding written sizeFor
+never-judged-written f t s codes body room d c = ap (λ (a : ℕ). writtenBy a (sizeFor f body)) (answers-alike f codes body d c t s room)

@@ -2,6 +2,7 @@ pub mod Parts
 pub mod Fitting
 pub mod Contents
 pub mod Octets
+pub mod Text
 pub mod There
 pub mod Back
 pub mod Answers

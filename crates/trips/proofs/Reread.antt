@@ -19,23 +19,18 @@ use Rattle.format.proofs.Tables.{flat-fill, given, given-fine, length-flat, nee
 use Rattle.format.proofs.Round.{Fits, encode-long, under-encode, read-write}
 use Rattle.packet.specs.declared.Form.{Form}
 use Rattle.packet.specs.declared.Fields.{Fields}
-use Rattle.packet.specs.declared.Opened.{Opened}
-use Rattle.packet.specs.Table.{formOf, rowOf, countIn, contentLines, code, ending, packet}
+use Rattle.packet.specs.Table.{formOf, contentBytes, rowOf, countIn, contentLines, code, ending, packet}
 use Rattle.packet.specs.Content.{formFor, numbersOf, numbersIn, countFor, noSuchDay}
 use Rattle.packet.specs.Reading.{kindIn, lengthIn, codesIn, formIn, contentAt, contentSize, countOf, partAt, tableOf, valuesIn, numbersAt, frontIn, bodyIn, backIn, contentIn, digitsIn, padded, codesOf, hasEntries, fieldsOf, sizeBad, lengthBad, isUnknown, readAnswer, opened, bodyOf}
 use Rattle.packet.specs.Writing.{rowFor, digitsBefore, digitsAfter, frontFor, backFor, bodyFor, sizeFor, tableFor, numbersFor, valuesFor, bytesFor}
-use Rattle.packet.proofs.Sizes.{content-size}
+use Rattle.packet.proofs.Sizes.{content-size, column}
+use Rattle.trips.specs.Given.{asGiven}
 use Rattle.trips.proofs.Parts as parts
 use Rattle.trips.proofs.Octets.{octets-at, run-bytes}
 use Rattle.trips.proofs.Fitting as fitting
 use Rattle.trips.proofs.Contents as contents
 use Rattle.trips.proofs.Padded.{padded-take}
-use Rattle.trips.proofs.Taken.{Taken, Fitted, content-even, type-small, lent-long, count-fits, front-long, back-long, whole-body, octet-size}
-
--- what a reader gives for fields, codes and a body: these, with zeros after the codes, and after the entries where there are any
-abbrev pub asGiven : Fields → List ℕ → List ℕ → Opened
-asGiven f codes body =
-    record { answer = 0; fields = f; codes = padded 322 codes; entries = padded 272 (cond (hasEntries (formFor (f .content))) body []) }
+use Rattle.trips.proofs.Taken.{Taken, Fitted, type-small, lent-long, count-fits, front-long, back-long, whole-body, octet-size}
 
 module _ (f : Fields) (codes body : List ℕ) (a : Taken f codes body) (y : Fitted f codes body) where
   body-long : length body ≡ countFor (f .content) body * need (rowFor (f .content) .each)
@@ -62,7 +57,7 @@ module _ (f : Fields) (codes body : List ℕ) (a : Taken f codes body) (y : Fitt
   size-right =
       let c = f .content in
       let k = countFor c body in
-      omega (arith, parts.size-packet (rowFor c) (f .kind) (sizeFor f body) (f .codes) k, content-even (formFor c) k)
+      omega (arith, parts.size-packet (rowFor c) (f .kind) (sizeFor f body) (f .codes) k, column (formFor c) k)
 
   given-26 : (w x : ℕ) → given 26 (just w x) ≡ true
   given-26 w x = rw (eq-eqb x x refl)
@@ -124,9 +119,13 @@ module _ (f : Fields) (codes body : List ℕ) (a : Taken f codes body) (y : Fitt
   form-back : formIn (bytesFor f codes body) ≡ formFor (f .content)
   form-back = ap formOf kind-back ∙ a .form
 
+  bytes-long : contentBytes (formFor (f .content)) (countFor (f .content) body) ≡ contentSize (bytesFor f codes body)
+  unfolding sizeFor
+  bytes-long = omega (arith, long, codes-back)
+
   content-long : size (contentLines (rowFor (f .content)) (countFor (f .content) body)) ≡ 8 * contentSize (bytesFor f codes body)
   unfolding sizeFor
-  content-long = omega (arith, long, codes-back, content-even (formFor (f .content)) (countFor (f .content) body))
+  content-long = omega (arith, long, codes-back, column (formFor (f .content)) (countFor (f .content) body))
 
   count-back : countOf (bytesFor f codes body) ≡ countFor (f .content) body
   unfolding countOf tableFor
@@ -222,7 +221,7 @@ module _ (f : Fields) (codes body : List ℕ) (a : Taken f codes body) (y : Fitt
   -- what follows the content begins 74 bytes before the end
   end-at : 24 + 96 * f .codes + size (contentLines (rowFor (f .content)) (countFor (f .content) body)) ≡ 8 * (length (bytesFor f codes body) - 74)
   unfolding sizeFor
-  end-at = omega (arith, long, content-even (formFor (f .content)) (countFor (f .content) body))
+  end-at = omega (arith, long, column (formFor (f .content)) (countFor (f .content) body))
 
   ending-is : at (bits (bytesFor f codes body)) (8 * (length (bytesFor f codes body) - 74)) 32
       ∷ (run (bits (bytesFor f codes body)) (8 * (length (bytesFor f codes body) - 70)) 12 4 ++ run (bits (bytesFor f codes body)) (8 * (length (bytesFor f codes body) - 64)) 64 8)
@@ -264,7 +263,7 @@ module _ (f : Fields) (codes body : List ℕ) (a : Taken f codes body) (y : Fitt
   unfolding lengthBad
   length-good =
       let b = bytesFor f codes body in
-      let e : size (contentLines (rowOf (formIn b)) (countOf b)) ≡ 8 * contentSize b = ap₂ (λ (g : Form) (k : ℕ). size (contentLines (rowOf g) k)) form-back count-back ∙ content-long in
+      let e : contentBytes (formIn b) (countOf b) ≡ contentSize b = ap₂ contentBytes form-back count-back ∙ bytes-long in
       ap not (eq-eqb _ _ e)
 
   known-good : isUnknown (formIn (bytesFor f codes body)) ≡ false
@@ -296,7 +295,7 @@ module _ (f : Fields) (codes body : List ℕ) (a : Taken f codes body) (y : Fitt
       let c = f .content in
       let k = countFor c body in
       let m : k * size (rowFor c .each) ≡ k * 8 = ap (λ (x : ℕ). k * x) w in
-      omega (arith, long, content-size (rowFor c) k, contents.fair (formFor c) .even1, m)
+      omega (arith, long, content-size (rowFor c) k, column (formFor c) k, contents.fair (formFor c) .even1, m)
 
   pub body-is : bodyOf (bytesFor f codes body) ≡ cond (hasEntries (formFor (f .content))) [] body
   unfolding bodyOf

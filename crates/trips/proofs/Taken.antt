@@ -2,8 +2,7 @@
 use mathlib.Core.Path.{_≡_, refl, sym, ap, _∙_}
 use mathlib.Core.List.{List, [], _∷_}
 use mathlib.Core.Bool.{Bool, true, false, not, _&&_, true≢false}
-use Prim.Native.Nat.{ℕ, _+_, _*_, _/_, _%_, _<_, _≤_}
-use native.Mathlib.Nat.{mul-assoc}
+use Prim.Native.Nat.{ℕ, _+_, _*_, _<_, _≤_}
 use native.Mathlib.Omega.{arith}
 use lib.ListN.{length, take, drop, length-append}
 use lib.Seq.{length-take-le, take-all}
@@ -12,17 +11,15 @@ use borrow.Author.Tests.{leb-true, eqb-true, ltb-true, ltb-false, not-false, lt-
 use Rattle.laws.specs.Scan.{all}
 use Rattle.laws.proofs.Cases.{and-both, or-both}
 use Rattle.format.specs.Format.{just, octets, size, need, inside, fine, unmet}
-use Rattle.packet.specs.declared.Form.{Form}
 use Rattle.packet.specs.declared.Form.the-variants.{Unknown}
 use Rattle.packet.specs.declared.Content.{Content}
 use Rattle.packet.specs.declared.Content.the-variants as content
 use Rattle.packet.specs.declared.Fields.{Fields}
-use Rattle.packet.specs.Table.{formOf, rowOf, countLine, contentLines, code}
+use Rattle.packet.specs.Table.{formOf, countLine, code}
 use Rattle.packet.specs.Content.{formFor, numbersOf, countFor, noSuchDay}
 use Rattle.packet.specs.Reading.{isUnknown}
 use Rattle.packet.specs.Writing.{rowFor, digitsBefore, digitsAfter, frontFor, backFor, bodyFor, sizeFor, tableFor, valuesFor, lentBad, countBad, digitBad, otherType, bodyLost, digitsLost, notTaken, writtenAnswer}
 use Rattle.packet.proofs.Forms as forms
-use Rattle.packet.proofs.Sizes.{content-size}
 use Rattle.trips.proofs.Fitting as fitting
 use Rattle.trips.proofs.Contents as contents
 use Rattle.laws.proofs.Refusals.{not-due}
@@ -79,17 +76,6 @@ pub record Fitted (f : Fields) (codes body : List ℕ) : Type 0 where
   pub bits-hold : fine 0 (tableFor f body) (valuesFor f codes body) ≡ true
 
 -- ---- small facts
-even-mul : (k s : ℕ) → s % 8 ≡ 0 → (k * s) % 8 ≡ 0
-even-mul k s e =
-    let h : s ≡ s / 8 * 8 = omega arith in
-    let g : k * s ≡ k * (s / 8) * 8 = ap (λ (x : ℕ). k * x) h ∙ sym (mul-assoc k (s / 8) 8) in
-    omega (arith, g)
-
-pub content-even : (f : Form) (k : ℕ) → size (contentLines (rowOf f) k) % 8 ≡ 0
-content-even f k =
-    let g = contents.fair f in
-    omega (arith, content-size (rowOf f) k, g .even1, g .even3, even-mul k (size (rowOf f .each)) (g .even2))
-
 -- a type of a known kind has five bits
 pub type-small : (t : ℕ) → isUnknown (formOf t) ≡ false → t < 32
 type-small t e = go (ltb t 25) refl

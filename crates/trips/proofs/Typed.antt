@@ -6,7 +6,7 @@ use Prim.Native.Nat.{ℕ, suc, _*_, _<_}
 use native.Mathlib.Omega.{arith}
 use lib.ListN.{length, take, drop, replicate, length-append}
 use lib.Seq.{take-all, drop-at}
-use lib.Dec.{leb, eqb}
+use lib.Dec.{eqb}
 use borrow.Author.Tests.{eqb-true, le-leb}
 use Rattle.laws.specs.Bits.{at}
 use Rattle.laws.specs.Scan.{all}
@@ -21,32 +21,9 @@ use Rattle.packet.specs.declared.Fields.{Fields}
 use Rattle.packet.specs.Table.{contentLines, code, ending, packet}
 use Rattle.packet.specs.Content.{countFor}
 use Rattle.packet.specs.Writing.{rowFor, frontFor, backFor, bodyFor, sizeFor, tableFor, numbersFor, valuesFor}
+use Rattle.trips.specs.Given.{held, Typed}
 use Rattle.trips.proofs.Parts as parts
 use Rattle.trips.proofs.Taken.{Taken, Fitted, lent-long, front-long, back-long, whole-body, code-unmet}
-
--- ---- what the types give
--- the numbers of a content's untested lines, by their types: u16 and u8
-abbrev pub held : Content → Bool
-held content.Raw = true
-held (content.Frequencies k) = true
-held (content.Address m) = true
-held (content.Keep on period) = leb period 65535
-held (content.Clock year month day hour minute second) = leb year 65535
-held (content.Reset change) = true
-held content.Factory = true
-held (content.Drill action) = true
-held (content.Text kind set t) = true
-held (content.Command k) = true
-held (content.Hold serial) = leb serial 255
-
-pub record Typed (f : Fields) (body : List ℕ) : Type 0 where
-  pub digits-long : length (f .digits) ≡ 35
-  pub certificate-long : length (f .certificate) ≡ 12
-  pub signature-long : length (f .signature) ≡ 64
-  pub content-held : held (f .content) ≡ true
-  pub time-held : f .time < 4294967296
-  pub signature-held : Under 256 (f .signature)
-  pub body-held : Under 256 body
 
 -- untested lines of bytes
 abbrev byteLine : Line → Bool

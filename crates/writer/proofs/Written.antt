@@ -20,7 +20,7 @@ use Rattle.packet.specs.declared.Content.{Content}
 use Rattle.packet.specs.declared.Content.the-variants as content
 use Rattle.packet.specs.declared.Fields.{Fields}
 use Rattle.packet.specs.Content.{countFor, noSuchDay}
-use Rattle.packet.specs.Writing.{rowFor, sizeFor, tableFor, valuesFor, bytesFor, lentBad, otherType, bodyLost, digitsLost, countBad, digitBad, notTaken, writtenAnswer, written, outputOf}
+use Rattle.packet.specs.Writing.{rowFor, sizeFor, tableFor, valuesFor, bytesFor, lentBad, otherType, bodyLost, digitsLost, countBad, digitBad, notTaken, writtenAnswer, written, packetOutput}
 use Rattle.writer.specs.Parts.{Lent, Writable}
 use Rattle.writer.specs.Ranges.{bytesOf}
 use Rattle.writer.proofs.Taken.{good-counts, counted-lent}
@@ -121,14 +121,14 @@ bytes-put last out e p ul uo ue l h w =
 
 -- ---- the ways out of `write`
 module _ (f : Fields) (codes body out : List ℕ) where
-  pub refused : (a : ℕ) → a ≡ writtenAnswer f codes body (length out) → (a ≡ 0 → ⊥) → (record { answer = a; length = 0 } ≡ written f codes body (length out)) × (out ≡ outputOf f codes body out)
-  unfolding written outputOf
+  pub refused : (a : ℕ) → a ≡ writtenAnswer f codes body (length out) → (a ≡ 0 → ⊥) → (record { answer = a; length = 0 } ≡ written f codes body (length out)) × (out ≡ packetOutput f codes body out)
+  unfolding written packetOutput
   refused a e n =
       let w = not-written a (sizeFor f body) (bytesFor f codes body) out n in rw (← e) (sym (w .0), sym (w .1))
 
   pub done : (d : length (f .digits) ≡ 35) (lc : length (f .certificate) ≡ 12) (ls : length (f .signature) ≡ 64) (last : List ℕ) (p : ℕ) → writtenAnswer f codes body (length out) ≡ 0 → Under 256 last → Under 256 out → p ≡ sizeFor f body
-      → bits last ≡ sets (bits out) 0 (encode (tableFor f body) (valuesFor f codes body)) → (record { answer = 0; length = p } ≡ written f codes body (length out)) × (last ≡ outputOf f codes body out)
-  unfolding written outputOf bytesFor
+      → bits last ≡ sets (bits out) 0 (encode (tableFor f body) (valuesFor f codes body)) → (record { answer = 0; length = p } ≡ written f codes body (length out)) × (last ≡ packetOutput f codes body out)
+  unfolding written packetOutput bytesFor
   done d lc ls last p e ul uo ep w =
       let g = passed f codes body (length out) e in
       let h = writable f codes body (length out) g in

@@ -1,4 +1,4 @@
--- The bits of a packet part by part, as the writer puts them.
+-- The bits of a packet part by part, as the writer puts them (01, Packet; 000, table 1).
 use mathlib.Core.Path.{_≡_}
 use mathlib.Core.List.{List, [], _++_}
 use Prim.Native.Nat.{ℕ, _+_, _-_, _*_, _≤_}
@@ -12,62 +12,62 @@ use Rattle.packet.specs.Table.{countLine, contentLines}
 use Rattle.packet.specs.Content.{countFor}
 use Rattle.packet.specs.Writing.{rowFor, frontFor, backFor, bodyFor, sizeFor}
 
--- a content: its first lines and its count; what is repeated; its last lines (01, Packet)
+-- a content: its first lines and its count; what is repeated; its last lines
 unfoldable pub frontBits : Content → List ℕ → ℕ → List ℕ
 frontBits c ds k =
     encode (rowFor c .before) (fill (rowFor c .before) (frontFor c ds)) ++ encode (countLine (rowFor c .sort) k) (fill (countLine (rowFor c .sort) k) [])
 
--- how many bits that is (01, Packet)
+-- how many bits that is
 unfoldable pub frontSize : Content → ℕ → ℕ
 frontSize c k = size (rowFor c .before) + size (countLine (rowFor c .sort) k)
 
--- what is repeated (01, Packet)
+-- what is repeated
 unfoldable pub bodyBits : Content → List ℕ → List ℕ
 bodyBits c body = encode (times (countFor c body) (rowFor c .each)) (fill (times (countFor c body) (rowFor c .each)) (bodyFor c body))
 
--- how many bits that is (01, Packet)
+-- how many bits that is
 unfoldable pub bodySize : Content → List ℕ → ℕ
 bodySize c body = countFor c body * size (rowFor c .each)
 
--- the last lines (01, Packet)
+-- the last lines
 unfoldable pub backBits : Content → List ℕ → List ℕ
 backBits c ds = encode (rowFor c .after) (fill (rowFor c .after) (backFor c ds))
 
--- a body of which no count is wrong: at most 255 rows, and as many numbers as they need (01, Packet)
+-- a body of which no count is wrong: at most 255 rows, and as many numbers as they need
 pub record Lent (c : Content) (body : List ℕ) : Type 0 where
   pub few : countFor c body ≤ 255
   pub numbers : length body ≡ countFor c body * need (rowFor c .each)
 
--- the whole content (01, Packet)
+-- the whole content
 abbrev pub linesFor : Content → List ℕ → List Line
 linesFor c body = contentLines (rowFor c) (countFor c body)
 
--- its bits (01, Packet)
+-- its bits
 unfoldable pub contentBits : Content → List ℕ → List ℕ → List ℕ
 contentBits c ds body = encode (linesFor c body) (fill (linesFor c body) (frontFor c ds ++ (bodyFor c body ++ backFor c ds)))
 
--- how many they are (01, Packet)
+-- how many they are
 unfoldable pub contentSize : Content → List ℕ → ℕ
 contentSize c body = size (linesFor c body)
 
--- what stands before the codes (000, table 1)
+-- what stands before the codes
 unfoldable pub headBits : ℕ → ℕ → ℕ → List ℕ
 headBits kind p n = bitsOf 5 kind ++ (bitsOf 11 (p - 2) ++ bitsOf 8 n)
 
--- time, certificate number, signature (000, table 1)
+-- time, certificate number, signature
 unfoldable pub endingBits : ℕ → List ℕ → List ℕ → List ℕ
 endingBits time certificate signature = bitsOf 32 time ++ (spread 4 certificate ++ spread 8 signature)
 
--- as much of the body as the content's rows need (01, Packet)
+-- as much of the body as the content's rows need
 abbrev pub Bodied : Content → List ℕ → Type 0
 Bodied c body = length (bodyFor c body) ≡ countFor c body * need (rowFor c .each)
 
--- counts that are those of what is lent (01, Packet)
+-- counts that are those of what is lent
 pub record Counts (f : Fields) (codes body : List ℕ) : Type 0 where
   pub bodied : Bodied (f .content) body
   pub coded : length codes ≡ f .codes * 23
 
--- fields that can be written: besides, all of the body is the content's, and the packet is not too long (01, Packet)
+-- fields that can be written: besides, all of the body is the content's, and the packet is not too long
 pub record Writable (f : Fields) (codes body : List ℕ) : Type 0 where
   pub counts : Counts f codes body
   pub lent : Lent (f .content) body

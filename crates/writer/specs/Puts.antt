@@ -1,4 +1,4 @@
--- What the functions under the packet writer ask of each other and give.
+-- What the functions under the packet writer ask of each other and give (ours, between functions).
 use mathlib.Core.Path.{_≡_}
 use mathlib.Core.Bool.{true, cond}
 use mathlib.Core.List.{List, _++_}
@@ -14,16 +14,16 @@ use Rattle.packet.specs.declared.Content.{Content}
 use Rattle.packet.specs.declared.Content.the-variants as content
 use Rattle.packet.specs.Content.{numbersOf}
 
--- the numbers of a line, where xs are those at hand (ours, between functions)
+-- the numbers of a line, where xs are those at hand
 abbrev pub valueOf : Line → List ℕ → List ℕ
 valueOf t xs = cond (t .free) (take (t .n) xs) (replicate (t .n) (t .lo))
 
--- the bits v put from bit p on, and the place behind them (ours, between functions)
+-- the bits v put from bit p on, and the place behind them
 pub record After (before after : List ℕ) (p : ℕ) (v : List ℕ) (r : ℕ) (s : ℕ) : Type 0 where
   pub put : bits after ≡ sets (bits before) p v
   pub place : r ≡ p + s
 
--- lines that can be put from bit p on, and enough numbers xs for them (ours, between functions)
+-- lines that can be put from bit p on, and enough numbers xs for them
 pub record Puttable (ts : Lines) (xs : List ℕ) (p : ℕ) : Type 0 where
   pub few : ts .m ≤ 6
   pub lines : all sound (take (ts .m) (ts .all)) ≡ true
@@ -31,7 +31,7 @@ pub record Puttable (ts : Lines) (xs : List ℕ) (p : ℕ) : Type 0 where
   pub brief : length xs ≤ 1000
   pub place : p < 30000
 
--- n rows of lines, each of w numbers and at most 100 bits, from bit p on, and the numbers xs of all of them (ours, between functions)
+-- n rows of lines, each of w numbers and at most 100 bits, from bit p on, and the numbers xs of all of them
 pub record Rows (ts : Lines) (n w : ℕ) (xs : List ℕ) (p : ℕ) : Type 0 where
   pub few : ts .m ≤ 6
   pub lines : all sound (take (ts .m) (ts .all)) ≡ true
@@ -42,17 +42,17 @@ pub record Rows (ts : Lines) (n w : ℕ) (xs : List ℕ) (p : ℕ) : Type 0 wher
   pub numbers : length xs ≡ n * w
   pub place : p < 3000
 
--- the content's numbers stand first (ours, between functions)
+-- the content's numbers stand first
 pub record Numbered (c : Content) (r : List ℕ) : Type 0 where
   pub numbers : take (length (numbersOf c)) r ≡ numbersOf c
   pub long : length r ≡ 41
 
--- and its digits behind them (ours, between functions)
+-- and its digits behind them
 pub record Fronted (c : Content) (ds r : List ℕ) : Type 0 where
   pub front : take (length (numbersOf c) + 35) r ≡ numbersOf c ++ ds
   pub long : length r ≡ 41
 
--- the count of a content, where so many bytes are lent (01, Packet)
+-- the count of a content, where so many bytes are lent
 abbrev pub countOf : Content → ℕ → ℕ
 countOf content.Raw lent = lent
 countOf (content.Frequencies k) lent = k

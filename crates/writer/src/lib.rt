@@ -6,7 +6,7 @@ mod tests;
 
 ghost use mathlib.Core.Path.{_≡_};
 ghost use lib.ListN.{length};
-ghost use Rattle.packet.specs.Writing.{written, outputOf};
+ghost use Rattle.packet.specs.Writing.{written, packetOutput};
 use packet::Fields;
 use packet::Written;
 
@@ -14,7 +14,7 @@ use packet::Written;
 // what the content's count counts. 23, 26, 25, 27, 20 or 10 where it is refused, and then nothing is written.
 pub fn write(fields: Fields, codes: &[u8], body: &[u8], out: &mut [u8]) -> Written
     ensures answer { λ r. ⌜ r ≡ written fields (now (codes .entry)) (now (body .entry)) (length (now (out .entry))) ⌝ }
-    ensures output { λ _. ⌜ now (out .exit) ≡ outputOf fields (now (codes .entry)) (now (body .entry)) (now (out .entry)) ⌝ }
+    ensures output { λ _. ⌜ now (out .exit) ≡ packetOutput fields (now (codes .entry)) (now (body .entry)) (now (out .entry)) ⌝ }
 {
     let a = tests::answer(fields, codes, body, out.len());
     if a != 0 {

@@ -2,12 +2,13 @@
 ghost use mathlib.Core.Path.{_≡_};
 ghost use mathlib.Core.Bool.{not, _&&_, false};
 ghost use Prim.Native.Nat.{_+_, _*_, _<_, _≤_};
-ghost use lib.ListN.{length};
+ghost use lib.ListN.{length, drop};
+ghost use Rattle.laws.specs.Refusals.{first};
 ghost use Rattle.format.specs.Format.{inside, fine, fill, times};
 ghost use Rattle.packet.specs.declared.Form.the-variants as form;
 ghost use Rattle.packet.specs.Table.{rowOf, typeOf};
 ghost use Rattle.packet.specs.Content.{formFor, countFor, noSuchDay};
-ghost use Rattle.packet.specs.Writing.{rowFor, bodyFor, digitsBefore, digitsAfter, digitsLost, countBad, digitBad, notTaken, writtenAnswer};
+ghost use Rattle.packet.specs.Writing.{rowFor, bodyFor, digitsBefore, digitsAfter, digitsLost, countBad, digitBad, notTaken, writeCases, writtenAnswer};
 ghost use lib.Dec.{leb, ltb, eqb};
 ghost use mathlib.Core.Logic.{_⊎_};
 ghost use Rattle.writer.specs.Parts.{Lent, Bodied, Counts};
@@ -370,16 +371,11 @@ fn too_long(f: Fields, lent: usize) -> bool
     250 < size_of(f, lent)
 }
 
-// The writer's answer.
-pub(crate) fn answer(f: Fields, codes: &[u8], body: &[u8], room: usize) -> u8
-    ensures { λ r. ⌜ r ≡ writtenAnswer f (now (codes .entry)) (now (body .entry)) room ⌝ }
+// What fields whose counts are right are due: 25, 27, 20 or 10.
+fn rest_answer(f: Fields, codes: &[u8], body: &[u8], room: usize) -> u8
+    requires { ⌜ countBad f (now codes) (now body) ≡ false ⌝ }
+    ensures { λ r. ⌜ r ≡ first (drop 2 (writeCases f (now (codes .entry)) (now (body .entry)) room)) ⌝ }
 {
-    if packet::type_of(packet::form_of(f.kind)) == 31 {
-        return 23;
-    }
-    if counts_bad(f, codes, body) {
-        return 26;
-    }
     if !digits_fine(f, codes, body) {
         return 25;
     }
@@ -393,4 +389,17 @@ pub(crate) fn answer(f: Fields, codes: &[u8], body: &[u8], room: usize) -> u8
         return 10;
     }
     0
+}
+
+// The writer's answer.
+pub(crate) fn answer(f: Fields, codes: &[u8], body: &[u8], room: usize) -> u8
+    ensures { λ r. ⌜ r ≡ writtenAnswer f (now (codes .entry)) (now (body .entry)) room ⌝ }
+{
+    if packet::type_of(packet::form_of(f.kind)) == 31 {
+        return 23;
+    }
+    if counts_bad(f, codes, body) {
+        return 26;
+    }
+    rest_answer(f, codes, body, room)
 }

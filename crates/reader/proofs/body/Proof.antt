@@ -1,12 +1,13 @@
 -- `reader::body` meets its contract. Assumes nothing.
-use mathlib.Core.Path.{_≡_, sym, _∙_}
-use denote.Ref.{now}
 use native.Mathlib.Omega.{arith}
+use mathlib.Core.Path.{sym, _∙_}
+use denote.Ref.{now}
 use Rattle.packet.specs.Reading.{readAnswer, bodyOf}
+use Rattle.packet.proofs.Refused.{no-part}
+use Rattle.reader.proofs.Whole as whole
 use borrow.Author.Needs.{needs}
 use Rattle.reader.proofs.body.Statement.{statement}
 use Rattle.reader.proofs.body.Tie as tie
-use Rattle.packet.proofs.Refused.{no-part}
 
 answer-requires : tie.Need-answer-requires
 answer-requires c κs = search needs
@@ -29,8 +30,11 @@ add-from-2 c = omega (arith, c .lead .ensures .1, c .before .codes-count .ensure
 bytes-count-requires : tie.Need-bytes-count-requires
 bytes-count-requires c κs = search needs
 
-part-requires : tie.Need-part-requires
-part-requires c κs = search needs
+add-end : tie.Need-add-end
+add-end c =
+    let b = now (c .before .before .before .before .before .before .args .packet) in
+    let e = sym (c .before .before .before .before .answer .ensures) ∙ c .before .before .before .if1 .taken in
+    omega (arith, whole.body-end b _ _ (c .before .before .codes-count .ensures .0) _ (c .before .lead .ensures .0) e (c .bytes-count .ensures), whole.most b e)
 
 sub-result : tie.Need-sub-result
 sub-result c = search needs
@@ -39,14 +43,24 @@ part-result-start : tie.Need-part-result-start
 part-result-start c = search needs
 
 part-result-end : tie.Need-part-result-end
-part-result-end c = search needs
+part-result-end c =
+    let b = now (c .before .before .before .before .before .before .args .packet) in
+    let e = sym (c .before .before .before .before .answer .ensures) ∙ c .before .before .before .if1 .taken in
+    whole.body-end b _ _ (c .before .before .codes-count .ensures .0) _ (c .before .lead .ensures .0) e (c .bytes-count .ensures)
+
+sub-result-2 : tie.Need-sub-result-2
+sub-result-2 c = search needs
+
+part-result-start-2 : tie.Need-part-result-start-2
+part-result-start-2 c = search needs
+
+part-result-end-2 : tie.Need-part-result-end-2
+part-result-end-2 c = search needs
 
 returns : tie.Need-returns
-unfolding bodyOf
 returns c =
     let b = now (c .before .before .before .before .before .before .before .args .packet) in
-    let e : readAnswer b ≡ 0 = sym (c .before .before .before .before .before .answer .ensures) ∙ c .before .before .before .before .if1 .taken in
-    c .part .ensures ∙ rw (e, c .before .bytes-count .ensures, c .before .before .lead .ensures .0, c .before .before .before .codes-count .ensures .0)
+    whole.body-part b _ _ (c .before .before .before .codes-count .ensures .0) _ (c .before .before .lead .ensures .0) (sym (c .before .before .before .before .before .answer .ensures) ∙ c .before .before .before .before .if1 .taken) (c .before .bytes-count .ensures)
 
 returns-2 : tie.Need-returns-2
 unfolding bodyOf
@@ -66,9 +80,12 @@ body-spec =
     lead-requires
     add-from-2
     bytes-count-requires
-    part-requires
+    add-end
     sub-result
     part-result-start
     part-result-end
+    sub-result-2
+    part-result-start-2
+    part-result-end-2
     returns
     returns-2)

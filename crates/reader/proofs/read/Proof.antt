@@ -12,13 +12,13 @@ answer-requires : tie.Need-answer-requires
 answer-requires c κs = search needs
 
 fields-requires : tie.Need-fields-requires
-fields-requires c κs = let b = now (c .before .before .before .args .packet) in whole.sized b (whole.no-size b (sym (c .before .answer .ensures) ∙ c .if1 .taken)) .most
+fields-requires c κs = let b = now (c .before .before .before .args .packet) in whole.most b (sym (c .before .answer .ensures) ∙ c .if1 .taken)
 
 codes-requires : tie.Need-codes-requires
 codes-requires c κs = search needs
 
 entries-requires : tie.Need-entries-requires
-entries-requires c κs = let b = now (c .before .before .before .before .before .args .packet) in whole.sized b (whole.no-size b (sym (c .before .before .before .answer .ensures) ∙ c .before .before .if1 .taken)) .most
+entries-requires c κs = let b = now (c .before .before .before .before .before .args .packet) in whole.most b (sym (c .before .before .before .answer .ensures) ∙ c .before .before .if1 .taken)
 
 refused-requires : tie.Need-refused-requires
 refused-requires c κs = search needs

@@ -1,11 +1,13 @@
 -- `reader::text` meets its contract. Assumes nothing.
-use mathlib.Core.Path.{_≡_, sym, _∙_}
+use native.Mathlib.Omega.{arith}
+use mathlib.Core.Path.{sym, _∙_}
 use denote.Ref.{now}
 use Rattle.packet.specs.Reading.{textAnswer, textOf}
+use Rattle.packet.proofs.Refused.{no-part}
+use Rattle.reader.proofs.Whole as whole
 use borrow.Author.Needs.{needs}
 use Rattle.reader.proofs.text.Statement.{statement}
 use Rattle.reader.proofs.text.Tie as tie
-use Rattle.packet.proofs.Refused.{no-part}
 
 text-answer-requires : tie.Need-text-answer-requires
 text-answer-requires c κs = search needs
@@ -22,8 +24,11 @@ add-from c = search needs
 text-length-requires : tie.Need-text-length-requires
 text-length-requires c κs = search needs
 
-part-requires : tie.Need-part-requires
-part-requires c κs = search needs
+add-end : tie.Need-add-end
+add-end c =
+    let b = now (c .before .before .before .before .before .args .packet) in
+    let e = sym (c .before .before .before .text-answer .ensures) ∙ c .before .before .if1 .taken in
+    omega (arith, whole.text-end b _ _ (c .before .codes-count .ensures .0) e (c .text-length .ensures), whole.most b (whole.text-there b e .0))
 
 sub-result : tie.Need-sub-result
 sub-result c = search needs
@@ -32,14 +37,24 @@ part-result-start : tie.Need-part-result-start
 part-result-start c = search needs
 
 part-result-end : tie.Need-part-result-end
-part-result-end c = search needs
+part-result-end c =
+    let b = now (c .before .before .before .before .before .args .packet) in
+    let e = sym (c .before .before .before .text-answer .ensures) ∙ c .before .before .if1 .taken in
+    whole.text-end b _ _ (c .before .codes-count .ensures .0) e (c .text-length .ensures)
+
+sub-result-2 : tie.Need-sub-result-2
+sub-result-2 c = search needs
+
+part-result-start-2 : tie.Need-part-result-start-2
+part-result-start-2 c = search needs
+
+part-result-end-2 : tie.Need-part-result-end-2
+part-result-end-2 c = search needs
 
 returns : tie.Need-returns
-unfolding textOf
 returns c =
     let b = now (c .before .before .before .before .before .before .args .packet) in
-    let e : textAnswer b ≡ 0 = sym (c .before .before .before .before .text-answer .ensures) ∙ c .before .before .before .if1 .taken in
-    c .part .ensures ∙ rw (e, c .before .text-length .ensures, c .before .before .codes-count .ensures .0)
+    whole.text-part b _ _ (c .before .before .codes-count .ensures .0) (sym (c .before .before .before .before .text-answer .ensures) ∙ c .before .before .before .if1 .taken) (c .before .text-length .ensures)
 
 returns-2 : tie.Need-returns-2
 unfolding textOf
@@ -57,9 +72,12 @@ text-spec =
     mul-from
     add-from
     text-length-requires
-    part-requires
+    add-end
     sub-result
     part-result-start
     part-result-end
+    sub-result-2
+    part-result-start-2
+    part-result-end-2
     returns
     returns-2)

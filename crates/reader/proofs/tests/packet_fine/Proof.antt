@@ -43,7 +43,7 @@ returns : tie.Need-returns
 returns c =
     let b = now (c .before .before .before .before .before .args .b) in
     let a = c .before .before .before .before .before .args .a in
-    let z = whole.right-length b (c .before .before .before .before .before .pre .2) in
+    let z = whole.right-size b (c .before .before .before .before .before .pre .2) in
     let e = c .before .frame-fine .ensures ∙ whole.frame-at a b (c .before .before .before .codes-count .result) (c .before .before .content-size .result) (c .before .before .before .codes-count .ensures .0) (c .before .before .content-size .ensures) in
     sym (whole.packet-parts a b (c .before .before .before .before .before .pre .0) z ∙ and-no _ (sym e ∙ not-true (c .before .frame-fine .result) (c .if1 .taken)))
 
@@ -63,7 +63,7 @@ returns-2 : tie.Need-returns-2
 returns-2 c =
     let b = now (c .before .before .before .before .before .before .before .before .args .b) in
     let a = c .before .before .before .before .before .before .before .before .args .a in
-    let z = whole.right-length b (c .before .before .before .before .before .before .before .before .pre .2) in
+    let z = whole.right-size b (c .before .before .before .before .before .before .before .before .pre .2) in
     let e = c .before .before .before .before .frame-fine .ensures ∙ whole.frame-at a b (c .before .before .before .before .before .before .codes-count .result) (c .before .before .before .before .before .content-size .result) (c .before .before .before .before .before .before .codes-count .ensures .0) (c .before .before .before .before .before .content-size .ensures) in
     c .content-fine .ensures ∙ whole.content-here a b (c .before .before .form .result) (c .before .count .result) (c .before .before .before .before .before .before .codes-count .result) (c .before .before .form .ensures) (c .before .count .ensures) (c .before .before .before .before .before .before .codes-count .ensures .0)
     ∙ sym (whole.packet-parts a b (c .before .before .before .before .before .before .before .before .pre .0) z ∙ and-yes _ (sym e ∙ not-false (c .before .before .before .before .frame-fine .result) (c .before .before .before .if1 .left)))
