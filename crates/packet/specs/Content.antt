@@ -1,9 +1,10 @@
 -- What the numbers of a content are called, and back (paper 01, the table of "Packet").
-use Prim.Native.Nat.{ℕ, _%_}
+use Prim.Native.Nat.{ℕ}
 use mathlib.Core.List.{List, [], _∷_}
-use mathlib.Core.Bool.{Bool, false, not, _&&_, _||_, cond}
+use mathlib.Core.Bool.{Bool, false, not}
 use lib.ListN.{length, getD}
-use lib.Dec.{leb, eqb}
+use lib.Dec.{leb}
+use Rattle.days.specs.Days.{daysIn}
 use Rattle.packet.specs.declared.Form.{Form}
 use Rattle.packet.specs.declared.Form.the-variants.{Frequencies, Address, Keep, Clock, Reset, Factory, Drill, Text, Command, Hold, Raw, Unknown}
 use Rattle.packet.specs.declared.Content.{Content}
@@ -81,17 +82,7 @@ countFor (content.Text kind set t) body = t
 countFor (content.Command k) body = k
 countFor (content.Hold serial) body = 0
 
--- ---- the one rule that crosses lines: the days of a month, by the Gregorian leap rule (01, Packet)
-unfoldable pub leap : ℕ → Bool
-leap year = eqb (year % 4) 0 && (not (eqb (year % 100) 0) || eqb (year % 400) 0)
-
--- 28 to 31 (01, Packet, type 3)
-unfoldable pub daysIn : ℕ → ℕ → ℕ
-daysIn year month =
-    cond (eqb month 2) (cond (leap year) 29 28)
-    (cond (eqb month 4 || (eqb month 6 || (eqb month 9 || eqb month 11))) 30
-    31)
-
+-- ---- the one rule that crosses lines: the days of a month
 -- no such day
 abbrev pub noSuchDay : Content → Bool
 noSuchDay content.Raw = false

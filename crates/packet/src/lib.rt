@@ -1,5 +1,4 @@
 // The packet of GY/T 390-2023, clause 6.1: what its fields are called, and its table of contents.
-mod days;
 mod rows;
 mod table;
 

@@ -11,7 +11,7 @@ use Rattle.frame.specs.Heading.{fixed, reserved, outside, refusals, headingFiel
 use Rattle.air.specs.OnAir.{framesFor}
 use Rattle.format.specs.Format.{times, size, need, encode, fill, inside, fine}
 use Rattle.packet.specs.Table.{formOf, contentLines, packet}
-use Rattle.packet.specs.Content.{leap, daysIn}
+use Rattle.days.specs.Days.{leap, daysIn}
 use Rattle.packet.specs.Writing.{frontFor, backFor, bodyFor, sizeFor, tableFor, numbersFor, bytesFor, countBad, digitBad, notTaken, writtenAnswer, written, packetOutput}
 use Rattle.promises.specs.Pier.{holds, examples}
 
