@@ -81,9 +81,9 @@ pub(crate) fn all(b: &[u8], x: u8) -> bool {
 }
 
 // The bytes that were written at the start of lent memory, which was 0xEE throughout; then whether the rest still is.
-pub(crate) fn memory(lent: &[u8], length: usize) {
-    hex(format::part(lent, 0, length));
-    if all(format::part(lent, length, 1000), 0xEE) {
+pub(crate) fn memory(lent: &[u8], written: usize) {
+    hex(format::part(lent, 0, written));
+    if all(format::part(lent, written, 1000), 0xEE) {
         text(b"\nthe rest as it was\n");
     } else {
         text(b"\nthe rest CHANGED\n");
