@@ -14,6 +14,11 @@ struct heard {
 struct radio radio_fresh(void);
 struct heard radio_receive(struct radio r, const uint8_t *delivery, size_t n, uint8_t *out, size_t room);
 uint16_t radio_packet_check(const uint8_t *bytes, size_t n);
+struct sent {
+    uint8_t answer;
+    size_t frames;
+};
+struct sent radio_on_air(const uint8_t *packet, size_t n, uint8_t level, uint8_t version, uint8_t *out, size_t room);
 
 /* The little of the C library that is used; a cross compiler may come without its headers. */
 struct timespec {
@@ -167,6 +172,47 @@ static void checks_agree(void)
         }
 }
 
+/* Every size, refused ones too; the length field right or one more; levels and versions at their edges; room that is just enough or a byte short. */
+typedef int on_air_fn(const uint8_t *, size_t, unsigned, unsigned, uint8_t *, size_t);
+enum { AIR_ROOM = 63 * 13 };
+static uint8_t packet[260];
+static void a_packet(size_t field)
+{
+    for (size_t i = 0; i < sizeof packet; i++)
+        packet[i] = (uint8_t)chance(256);
+    packet[0] = (uint8_t)((packet[0] & 0xF8) | field >> 8);
+    packet[1] = (uint8_t)field;
+}
+
+static int ours_on_air(const uint8_t *bytes, size_t n, unsigned level, unsigned version, uint8_t *out, size_t room)
+{
+    struct sent s = radio_on_air(bytes, n, (uint8_t)level, (uint8_t)version, out, room);
+    return s.answer == 0 ? (int)s.frames : -(int)s.answer;
+}
+
+static on_air_fn *const on_airs[4] = {ours_on_air, plain_on_air, table_on_air, same_on_air};
+static void on_air_agrees(void)
+{
+    static const unsigned levels[4] = {0, 1, 6, 7}, versions[3] = {0, 31, 32};
+    static uint8_t outs[4][AIR_ROOM];
+    for (size_t n = 0; n <= 255; n++)
+        for (int k = 0; k < 24; k++) {
+            size_t need = (n + 5) / 4 * 13, room = k % 4 == 0 ? need - 1 : need;
+            if (room > AIR_ROOM)
+                room = AIR_ROOM;
+            a_packet(n - 2 + (k == 23));
+            int answers[4];
+            for (int way = 0; way < 4; way++) {
+                for (size_t i = 0; i < AIR_ROOM; i++)
+                    outs[way][i] = (uint8_t)i;
+                answers[way] = on_airs[way](packet, n, levels[(k + 1) % 4], versions[k / 4 % 3], outs[way], room);
+            }
+            for (int way = 1; way < 4; way++)
+                if (answers[way] != answers[0] || memcmp(outs[way], outs[0], AIR_ROOM) != 0)
+                    differ("on air", n);
+        }
+}
+
 static void refusals_agree(void)
 {
     uint8_t out[ROOM];
@@ -219,6 +265,18 @@ static size_t checking(int way, size_t length, size_t times)
     return sum;
 }
 
+static size_t sending(int way, size_t length, size_t times)
+{
+    static uint8_t out[AIR_ROOM];
+    size_t sum = 0;
+    a_packet(length - 2);
+    for (size_t i = 0; i < times; i++) {
+        packet[2] = (uint8_t)i;
+        sum += (size_t)on_airs[way](packet, length, 1, (unsigned)(i % 32), out, sizeof out) + out[12];
+    }
+    return sum;
+}
+
 /* All in turn, ROUNDS times, after one turn that is not counted; the medians, and ours over each of the others. */
 static void measure(const char *what, work_fn *work, size_t a, size_t b, double units)
 {
@@ -260,7 +318,8 @@ static const char *const check_names[8] = {"packet check of 2 bytes", "packet ch
 static int only(int way, int kind, size_t times)
 {
     kinds[kind % 3](16 * PIECE);
-    return (kind < 3 ? receiving(way, times * PIECE, PIECE) : checking(way, 250, times)) > (size_t)1 << 40;
+    size_t sum = kind < 3 ? receiving(way, times * PIECE, PIECE) : kind == 3 ? checking(way, 250, times) : sending(way, 250, times);
+    return sum > (size_t)1 << 40;
 }
 
 int main(int argc, char **argv)
@@ -275,6 +334,7 @@ int main(int argc, char **argv)
     }
     noise(8192);
     checks_agree();
+    on_air_agrees();
     refusals_agree();
     if (wrong)
         return 1;
@@ -294,5 +354,7 @@ int main(int argc, char **argv)
         size_t times = k == 0 ? 500000 : 4000000 / lengths[k];
         measure(check_names[k], checking, lengths[k], times, (double)(times * lengths[k]));
     }
+    measure("on air, 10000 of 77", sending, 77, 10000, 770000);
+    measure("on air, 10000 of 250", sending, 250, 10000, 2500000);
     return 0;
 }

@@ -1,12 +1,22 @@
 /* Both divisions as the standard writes them: bit by bit, the generator taken off wherever its highest bit stands. */
 #include "plain.h"
 
-static int valid(uint32_t block, unsigned offset)
+static uint32_t rest_of(uint32_t block)
 {
     for (int i = 25; i >= 10; i--)
         if (block >> i & 1)
             block ^= (uint32_t)0x5B9 << (i - 10);
-    return block == offset;
+    return block;
+}
+
+static int valid(uint32_t block, unsigned offset)
+{
+    return rest_of(block) == offset;
+}
+
+static unsigned block_check(uint32_t info)
+{
+    return rest_of(info << 10);
 }
 
 #define RECEIVE plain_receive
@@ -22,3 +32,7 @@ uint16_t plain_packet_check(const uint8_t *bytes, size_t n)
     }
     return reg;
 }
+
+#define ON_AIR plain_on_air
+#define CHECK plain_packet_check
+#include "send.h"

@@ -1,4 +1,4 @@
-/* The same steps as ours, in C: 32 places are asked at once while hunting, 26 bits at a time are taken when locked. */
+/* The same steps as ours, in C: 32 places are asked at once while hunting, 26 bits at a time are taken when locked; check bits by long division. */
 #include "plain.h"
 
 static uint32_t bits_at(const uint8_t *delivery, size_t n, size_t from, unsigned count)
@@ -9,7 +9,7 @@ static uint32_t bits_at(const uint8_t *delivery, size_t n, size_t from, unsigned
     return (uint32_t)(wide >> (40 - from % 8 - count) & (((uint64_t)1 << count) - 1));
 }
 
-static unsigned block_check(uint32_t p)
+static unsigned remainder_of(uint32_t p)
 {
     uint32_t h = p >> 2, u = h ^ h >> 1, a = u ^ u >> 2 ^ h >> 4, q = p ^ a ^ a >> 9, w = q ^ q << 1;
     return (q ^ w << 3 ^ q << 5 ^ w << 7) & 0x3FF;
@@ -17,7 +17,7 @@ static unsigned block_check(uint32_t p)
 
 static int valid(uint32_t block, unsigned offset)
 {
-    return (block_check(block >> 10) ^ offset) == (block & 0x3FF);
+    return (remainder_of(block >> 10) ^ offset) == (block & 0x3FF);
 }
 
 /* Bit k is 1 only where the 26 bits from bit k up may be a block A. */
@@ -108,3 +108,18 @@ uint16_t same_packet_check(const uint8_t *bytes, size_t n)
     }
     return reg;
 }
+
+static unsigned block_check(uint32_t info)
+{
+    unsigned rest = 0;
+    for (int left = 25; left >= 0; left--) {
+        rest = rest * 2 + (info << 10 >> left) % 2;
+        if (rest >= 1024)
+            rest ^= 0x5B9;
+    }
+    return rest;
+}
+
+#define ON_AIR same_on_air
+#define CHECK same_packet_check
+#include "send.h"

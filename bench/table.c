@@ -3,7 +3,7 @@
 
 static uint16_t high[256], low[256], crc[256];
 
-static uint16_t block_check(uint32_t info)
+static uint16_t divided(uint32_t info)
 {
     uint32_t rest = info << 10;
     for (int i = 25; i >= 10; i--)
@@ -15,8 +15,8 @@ static uint16_t block_check(uint32_t info)
 void table_prepare(void)
 {
     for (uint32_t b = 0; b < 256; b++) {
-        high[b] = block_check(b << 8);
-        low[b] = block_check(b);
+        high[b] = divided(b << 8);
+        low[b] = divided(b);
         uint16_t reg = (uint16_t)(b << 8);
         for (int k = 0; k < 8; k++)
             reg = reg & 0x8000 ? (uint16_t)(reg << 1 ^ 0x1021) : (uint16_t)(reg << 1);
@@ -24,9 +24,14 @@ void table_prepare(void)
     }
 }
 
+static unsigned block_check(uint32_t info)
+{
+    return high[info >> 8] ^ low[info & 0xFF];
+}
+
 static int valid(uint32_t block, unsigned offset)
 {
-    return (high[block >> 18] ^ low[block >> 10 & 0xFF] ^ (block & 0x3FF)) == offset;
+    return (block_check(block >> 10) ^ (block & 0x3FF)) == offset;
 }
 
 #define RECEIVE table_receive
@@ -39,3 +44,7 @@ uint16_t table_packet_check(const uint8_t *bytes, size_t n)
         reg = (uint16_t)(reg << 8 ^ crc[(reg >> 8 ^ bytes[i]) & 0xFF]);
     return reg;
 }
+
+#define ON_AIR table_on_air
+#define CHECK table_packet_check
+#include "send.h"

@@ -1,5 +1,6 @@
 #!/usr/bin/env python3
 """Looks up what the documents name: a name that is gone, a public function without its row, an edit that no page mentions, each ends this with status 1.
+Works the long division of the page for the teaching evening anew, too.
 
   tests/docs.py [ROOT]
 """
@@ -170,6 +171,49 @@ def crates_are_told():
                 fault(page, "no word of the crate %s" % crate)
 
 
+def number(bits):
+    return int(bits.replace(" ", ""), 2)
+
+
+def column_sum(a, b):
+    """Column by column, with nothing carried."""
+    return sum((a >> k & 1 != b >> k & 1) << k for k in range(26))
+
+
+def division_holds():
+    """The page for the teaching evening: the routine's lines are the code's, and every worked step and sum comes out again."""
+    page = "docs/LONG-DIVISION.md"
+    shown = text(page)
+    routine = re.findall(r"(?:^    .*\n)+", shown, re.M)[0]
+    if routine not in text("crates/block/src/lib.rt"):
+        fault(page, "its routine is not the code of `block::check_word`")
+    generator = sum(1 << k for k in (10, 8, 7, 5, 4, 3, 0))
+    word = int(re.search(r"information word (0x[0-9A-F]{4})", shown).group(1), 16)
+    digits, rest, step = format(word, "016b") + "0" * 10, 0, 0
+    for first, last, bit, with_it, off, left in re.findall(r"^\| (\d+)(?: to (\d+))? \| ([01]) \| ([01 ]+) \| (yes|no) \| ([01 ]+) \|$", shown, re.M):
+        if int(first) != step + 1:
+            fault(page, "step %d does not follow step %d" % (int(first), step))
+        for step in range(int(first), int(last or first) + 1):
+            brought = 2 * rest + int(digits[step - 1 : step] or 0)
+            goes = brought >= 2**10
+            rest = column_sum(brought, generator) if goes else brought
+            if (digits[step - 1 : step], brought, goes, rest) != (bit, number(with_it), off == "yes", number(left)):
+                fault(page, "step %d of the division is wrong" % step)
+    if step != len(digits):
+        fault(page, "the division ends at step %d of %d" % (step, len(digits)))
+    sums = re.findall(r"^ +([01]+ [01 ]+[01]) {3}.*\n +([01]+ [01 ]+[01]) {3}.*\n +-+\n +([01]+ [01 ]+[01]) {3}.*$", shown, re.M)
+    if len(sums) != 3 or any(column_sum(number(a), number(b)) != number(c) for a, b, c in sums):
+        fault(page, "a sum is wrong, or there are not three")
+    if [number(c) for _, _, c in sums[1:]] != [rest, column_sum(rest, 0x0FC)]:
+        fault(page, "the sums do not end at the remainder, then with the offset of A")
+    for bits, told in re.findall(r"^ +([01]+ [01 ]+[01]) {3}(0x[0-9A-F]+)$", shown, re.M):
+        if number(bits) != int(told, 16):
+            fault(page, "%s is not %s" % (bits, told))
+    block = word * 2**10 + column_sum(rest, 0x0FC)
+    if {int(b, 16) for b in re.findall(r"0x[0-9A-F]{7}", shown)} != {block} or {int(r, 16) for r in re.findall(r"remainder is (0x[0-9A-F]+)", shown)} != {rest}:
+        fault(page, "another block than %07X, or another remainder than %03X" % (block, rest))
+
+
 def main():
     pages = ["README.md"] + files("docs/**/*.md")
     for page in pages:
@@ -179,6 +223,7 @@ def main():
     map_is_full()
     edits_are_told()
     crates_are_told()
+    division_holds()
     if faults:
         sys.exit("\n".join(faults))
     print("docs: every name on %d pages is there; each of %d public functions has its row and two edits of code" % (len(pages), len(list(public_functions()))))

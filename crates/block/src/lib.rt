@@ -23,7 +23,29 @@ pub fn offset_of(letter: Letter) -> u16
     }
 }
 
-// What is left of information times x^10 on division by the generator, with no loop, since hunting asks at every bit:
+// x^10 + x^8 + x^7 + x^5 + x^4 + x^3 + 1, a bit a term.
+const GENERATOR: u16 = 0b101_1011_1001;
+
+// The check bits of an information word, with an offset added: the long division of information times x^10 as on paper.
+// docs/LONG-DIVISION.md works one through.
+pub fn check_word(info: u16, offset: u16) -> u16
+    ensures { λ r. ⌜ r ≡ checkWord info offset ⌝ }
+{
+    let dividend = info as u32 * 1024;
+    let mut rest: u16 = 0;
+    let mut bits_left: u32 = 26;
+    while bits_left > 0 {
+        bits_left -= 1;
+        let brought_down = (dividend >> bits_left) % 2;
+        rest = rest * 2 + brought_down as u16;
+        if rest >= 1024 {
+            rest = rest ^ GENERATOR;
+        }
+    }
+    rest ^ offset
+}
+
+// The same remainder, fast, with no loop, since hunting asks for validity at many places:
 // q is the quotient, a sum of shifts of the information, and what q times the generator has below x^10 is the remainder.
 fn remainder_of(info: u16) -> u16
     ensures { λ r. ⌜ r ≡ syndrome (info * 2 ^ 10) ⌝ }
@@ -37,13 +59,6 @@ fn remainder_of(info: u16) -> u16
     ((q ^ (w << 3) ^ (q << 5) ^ (w << 7)) % 1024) as u16
 }
 
-// The check bits of an information word, with an offset added.
-pub fn check_word(info: u16, offset: u16) -> u16
-    ensures { λ r. ⌜ r ≡ checkWord info offset ⌝ }
-{
-    remainder_of(info) ^ offset
-}
-
 // Whether `bits` is a block of the letter; what has more than 26 bits is none.
 pub fn valid(bits: u32, letter: Letter) -> bool
     ensures { λ r. ⌜ r ≡ isValid bits letter ⌝ }
@@ -51,7 +66,7 @@ pub fn valid(bits: u32, letter: Letter) -> bool
     if bits < 0x400_0000 {
         let info = (bits / 1024) as u16;
         let check = (bits % 1024) as u16;
-        check_word(info, offset_of(letter)) == check
+        (remainder_of(info) ^ offset_of(letter)) == check
     } else {
         false
     }

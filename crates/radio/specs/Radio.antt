@@ -1,4 +1,4 @@
--- What the functions for C answer: what `receive` answers, with a receiver's phase as a number.
+-- What the functions for C answer: what `receive` and `on_air` answer, with a receiver's phase as a number.
 use mathlib.Core.Bool.{cond}
 use mathlib.Core.List.{List}
 use Prim.Native.Nat.{ℕ}
@@ -11,6 +11,8 @@ use Rattle.receiver.specs.declared.Received.{Received}
 use Rattle.receiver.specs.Receive.{receivedOf, receivedInto}
 use Rattle.radio.specs.declared.Radio.{Radio}
 use Rattle.radio.specs.declared.Heard.{Heard}
+use Rattle.air.specs.declared.Aired.{Aired}
+use Rattle.radio.specs.declared.Sent.{Sent}
 
 abbrev pub phaseNumber : Phase → ℕ
 phaseNumber Hunting = 0
@@ -45,3 +47,7 @@ heardOf r d out = cond (ltb 4 (r .phase)) (record { answer = 28; frames = 0; rad
 
 unfoldable pub outputAfter : Radio → List ℕ → List ℕ → List ℕ
 outputAfter r d out = cond (ltb 4 (r .phase)) out (receivedInto (receiverOf r) d out)
+
+-- what the on-air writer answers, as a record for C
+abbrev pub sentAs : Aired → Sent
+sentAs a = record { answer = a .answer; frames = a .frames }

@@ -1,11 +1,12 @@
-// The receiver and the packet check for programs in C: the same functions, with a receiver's phase as a number.
+// The receiver, the packet check and the on-air writer for programs in C: the same functions, with a receiver's phase as a number.
 use block::Letter;
 use receiver::Phase;
 use receiver::Received;
 use receiver::Receiver;
 ghost use mathlib.Core.Path.{_≡_};
 ghost use Rattle.crc.specs.Crc16.{crc16};
-ghost use Rattle.radio.specs.Radio.{phaseNumber, phaseOf, receiverOf, radioOf, heardAs, freshRadio, heardOf, outputAfter};
+ghost use Rattle.air.specs.OnAir.{airedOf, airedInto};
+ghost use Rattle.radio.specs.Radio.{phaseNumber, phaseOf, receiverOf, radioOf, heardAs, freshRadio, heardOf, outputAfter, sentAs};
 
 // A receiver between deliveries: phase 0 hunts, 1 to 4 are locked and expect A, B, C or D.
 #[repr(C)]
@@ -22,6 +23,13 @@ pub struct Heard {
     pub answer: u8,
     pub frames: usize,
     pub radio: Radio,
+}
+
+// The on-air writer's answer, and how many frames were written.
+#[repr(C)]
+pub struct Sent {
+    pub answer: u8,
+    pub frames: usize,
 }
 
 fn number_of(phase: Phase) -> u32
@@ -128,4 +136,17 @@ pub extern "C" fn radio_packet_check(bytes: &[u8]) -> u16
     ensures { λ r. ⌜ r ≡ crc16 (now (bytes .entry)) ⌝ }
 {
     crc::packet_check(bytes)
+}
+
+// A packet on air, as `on_air` writes it.
+#[no_mangle]
+pub extern "C" fn radio_on_air(packet: &[u8], level: u8, version: u8, out: &mut [u8]) -> Sent
+    ensures answer { λ r. ⌜ r ≡ sentAs (airedOf (now (packet .entry)) level version (now (out .entry))) ⌝ }
+    ensures out { λ _. ⌜ now (out .exit) ≡ airedInto (now (packet .entry)) level version (now (out .entry)) ⌝ }
+{
+    let aired = air::on_air(packet, level, version, out);
+    Sent {
+        answer: aired.answer,
+        frames: aired.frames,
+    }
 }
