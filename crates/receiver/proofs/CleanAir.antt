@@ -17,7 +17,7 @@ use Rattle.frame.specs.OnAir.{blockBits, frameBits, airBytes, streamOf}
 use Rattle.frame.specs.Examples.{zeros-on-air}
 use Rattle.frame.proofs.OnAir.{block-number, length-block, wordAt, block, information, stream-bits}
 use Rattle.receiver.specs.declared.Phase.the-variants.{Hunting, Locked}
-use Rattle.receiver.specs.Rule.{Heard, next, complete, kept, onto, heard}
+use Rattle.receiver.specs.Rule.{Heard, next, complete, kept, onto, heard, heardClean}
 use Rattle.receiver.specs.Receive.{freshReceiver, endOf, hearing}
 use Rattle.receiver.specs.Calls.{Call, IsFrame, AreFrames, allTaken, allFrames, lastReceiver, delivered, inBounds}
 use Rattle.receiver.proofs.Rule.{heard-short, heard-found, heard-pass}
@@ -88,10 +88,6 @@ module _ (f m : List ℕ) (i : IsFrame f) where
       ∙ from-B
 
 -- ---- frames one after the other
--- handed out, and the receiver locked, expecting A, with nothing pending
-abbrev pub heardClean : List (List ℕ) → Heard
-heardClean fs = record { frames = fs; phase = Locked A; begun = []; held = [] }
-
 locked-stream : (fs : List (List ℕ)) → AreFrames fs → heard (Locked A) [] (bits (streamOf fs)) ≡ heardClean fs
 unfolding streamOf spread
 locked-stream [] u = heard-short (Locked A) [] [] (omega arith)

@@ -65,3 +65,7 @@ rule (suc n) (Locked x) g l =
 
 unfoldable pub heard : Phase → List ℕ → List ℕ → Heard
 heard p g l = rule (length l) p g l
+
+-- what is heard of clean air: its frames, and the receiver locked, expecting A, with nothing pending
+abbrev pub heardClean : List (List ℕ) → Heard
+heardClean fs = record { frames = fs; phase = Locked A; begun = []; held = [] }
