@@ -14,6 +14,7 @@ struct heard {
 struct radio radio_fresh(void);
 struct heard radio_receive(struct radio r, const uint8_t *delivery, size_t n, uint8_t *out, size_t room);
 uint16_t radio_packet_check(const uint8_t *bytes, size_t n);
+uint32_t radio_letter(uint32_t bits);
 struct sent {
     uint8_t answer;
     size_t frames;
@@ -170,6 +171,20 @@ static void checks_agree(void)
             if (mine != plain_packet_check(air + from, n) || mine != table_packet_check(air + from, n) || mine != same_packet_check(air + from, n))
                 differ("packet check", n);
         }
+}
+
+/* Every letter's block, with a bit turned or not, and numbers that are no 26 bits. */
+static void letters_agree(void)
+{
+    static const unsigned five[5] = {0x0FC, 0x198, 0x168, 0x350, 0x1B4};
+    for (uint32_t n = 0; n < 60000; n++) {
+        uint32_t bits = block(chance(65536), five[n % 5]) ^ chance(2) << chance(28), due = 0;
+        for (uint32_t k = 0; k < 5; k++)
+            if (bits < 1u << 26 && block(bits >> 10, five[k]) == bits)
+                due = k + 1;
+        if (radio_letter(bits) != due)
+            differ("letter", bits);
+    }
 }
 
 /* Every size, refused ones too; the length field right or one more; levels and versions at their edges; room that is just enough or a byte short. */
@@ -334,6 +349,7 @@ int main(int argc, char **argv)
     }
     noise(8192);
     checks_agree();
+    letters_agree();
     on_air_agrees();
     refusals_agree();
     if (wrong)

@@ -16,7 +16,7 @@ use Rattle.laws.proofs.Remainder.{remainder-lt, remainder-xor, remainder-low}
 use Rattle.laws.proofs.Division.{is-remainder, only-remainder}
 use Rattle.block.specs.declared.Letter.{Letter}
 use Rattle.block.specs.declared.Letter.the-variants.{A, B, C, D}
-use Rattle.block.specs.Block.{generator, offsetOf, syndrome, checkWord, isValid}
+use Rattle.block.specs.Block.{generator, offsetOf, syndrome, checkWord, carries, isValid}
 
 -- The check word with no offset is the remainder of information times x^10: it has at most ten bits, and some multiple of the generator and it make up the dividend.
 pub check-word-is-remainder : (info : ℕ) → info < 2 ^ 16 → IsRemainder 10 generator (info * 2 ^ 10) (checkWord info 0)
@@ -44,21 +44,25 @@ syndrome-block info check h =
     ∙ ap (λ (x : ℕ). syndrome (info * 2 ^ 10) ⊕ x) (remainder-low 10 generator 26 check h (omega arith))
 
 -- of any bits, by their two parts
-by-parts : (bits : ℕ) → syndrome bits ≡ syndrome (bits / 2 ^ 10 * 2 ^ 10) ⊕ bits % 2 ^ 10
-unfolding checkWord
+pub by-parts : (bits : ℕ) → syndrome bits ≡ checkWord (bits / 2 ^ 10) (bits % 2 ^ 10)
 by-parts bits = ap syndrome (sym (split bits 10)) ∙ syndrome-block (bits / 2 ^ 10) (bits % 2 ^ 10) (mod-lt bits (pow-pos 10))
+
+-- The remainder of what carries an offset is that offset.
+pub carries-remainder : (bits offset : ℕ) → carries bits offset ≡ true → syndrome bits ≡ offset
+unfolding carries checkWord
+carries-remainder bits offset t =
+    let e : checkWord (bits / 2 ^ 10) offset ≡ bits % 2 ^ 10 = eqb-true _ _ (and-right (ltb bits (2 ^ 26)) (eqb (checkWord (bits / 2 ^ 10) offset) (bits % 2 ^ 10)) t) in
+    by-parts bits
+    ∙ ap (λ (x : ℕ). syndrome (bits / 2 ^ 10 * 2 ^ 10) ⊕ x) (sym e)
+    ∙ xor-undo (syndrome (bits / 2 ^ 10 * 2 ^ 10)) offset
 
 -- A valid block's remainder is the offset word of its letter.
 pub valid-remainder : (bits : ℕ) (letter : Letter) → isValid bits letter ≡ true → syndrome bits ≡ offsetOf letter
-unfolding isValid checkWord
-valid-remainder bits letter t =
-    let e : checkWord (bits / 2 ^ 10) (offsetOf letter) ≡ bits % 2 ^ 10 = eqb-true _ _ (and-right (ltb bits (2 ^ 26)) (eqb (checkWord (bits / 2 ^ 10) (offsetOf letter)) (bits % 2 ^ 10)) t) in
-    by-parts bits
-    ∙ ap (λ (x : ℕ). syndrome (bits / 2 ^ 10 * 2 ^ 10) ⊕ x) (sym e)
-    ∙ xor-undo (syndrome (bits / 2 ^ 10 * 2 ^ 10)) (offsetOf letter)
+unfolding isValid
+valid-remainder bits letter t = carries-remainder bits (offsetOf letter) t
 
 pub remainder-valid : (bits : ℕ) (letter : Letter) → bits < 2 ^ 26 → syndrome bits ≡ offsetOf letter → isValid bits letter ≡ true
-unfolding isValid checkWord
+unfolding isValid carries checkWord
 remainder-valid bits letter h e =
     let f : checkWord (bits / 2 ^ 10) (offsetOf letter) ≡ bits % 2 ^ 10 =
     ap (λ (x : ℕ). syndrome (bits / 2 ^ 10 * 2 ^ 10) ⊕ x) (sym e ∙ by-parts bits)
@@ -88,26 +92,3 @@ made-valid info letter h =
     let c = checkWord info (offsetOf letter) in
     let small : c < 1024 = check-word-small info letter in
     remainder-valid (info * 2 ^ 10 + c) letter (omega arith) (syndrome-block info c small ∙ xor-undo (syndrome (info * 2 ^ 10)) (offsetOf letter))
-
--- At most one letter fits any number.
-pub one-letter : (bits : ℕ) (k l : Letter) → isValid bits k ≡ true → isValid bits l ≡ true → k ≡ l
-one-letter bits k l p q = apart k l (sym (valid-remainder bits k p) ∙ valid-remainder bits l q)
-  where
-    -- the four words differ
-    apart : (k l : Letter) → offsetOf k ≡ offsetOf l → k ≡ l
-    apart A A e = refl
-    apart B B e = refl
-    apart C C e = refl
-    apart D D e = refl
-    apart A B e = absurd (omega arith)
-    apart A C e = absurd (omega arith)
-    apart A D e = absurd (omega arith)
-    apart B A e = absurd (omega arith)
-    apart B C e = absurd (omega arith)
-    apart B D e = absurd (omega arith)
-    apart C A e = absurd (omega arith)
-    apart C B e = absurd (omega arith)
-    apart C D e = absurd (omega arith)
-    apart D A e = absurd (omega arith)
-    apart D B e = absurd (omega arith)
-    apart D C e = absurd (omega arith)

@@ -26,6 +26,10 @@ syndrome bits = remainder 10 generator 26 bits
 unfoldable pub checkWord : ℕ → ℕ → ℕ
 checkWord info offset = syndrome (info * 2 ^ 10) ⊕ offset
 
--- 26 bits whose low ten are the check bits of the high sixteen with the letter's offset; no number of 2^26 or more
+-- 26 bits whose low ten are the check bits of the high sixteen with the offset; no number of 2^26 or more
+unfoldable pub carries : ℕ → ℕ → Bool
+carries bits offset = ltb bits (2 ^ 26) && eqb (checkWord (bits / 2 ^ 10) offset) (bits % 2 ^ 10)
+
+-- a block of the letter
 unfoldable pub isValid : ℕ → Letter → Bool
-isValid bits letter = ltb bits (2 ^ 26) && eqb (checkWord (bits / 2 ^ 10) (offsetOf letter)) (bits % 2 ^ 10)
+isValid bits letter = carries bits (offsetOf letter)

@@ -1,7 +1,8 @@
 // Blocks of 26 bits: sixteen of information, then ten of check.
 ghost use mathlib.Core.Path.{_≡_};
 ghost use Prim.Native.Nat.{_*_, _^_};
-ghost use Rattle.block.specs.Block.{syndrome, checkWord, offsetOf, isValid};
+ghost use Rattle.block.specs.Block.{syndrome, checkWord, offsetOf};
+ghost use Rattle.block.specs.Letters.{one, wordOf, likelyOf, letterWith, letterOf, placeOf};
 
 // Which of a frame's four blocks: the first is A.
 pub enum Letter {
@@ -59,15 +60,81 @@ fn remainder_of(info: u16) -> u16
     ((q ^ (w << 3) ^ (q << 5) ^ (w << 7)) % 1024) as u16
 }
 
-// Whether `bits` is a block of the letter; what has more than 26 bits is none.
-pub fn valid(bits: u32, letter: Letter) -> bool
-    ensures { λ r. ⌜ r ≡ isValid bits letter ⌝ }
+// What 26 bits carry: the block of one of the five letters that the standard knows, or none. A frame of ours has no C'.
+pub enum Carried {
+    None,
+    A,
+    B,
+    C,
+    D,
+    CPrime,
+}
+
+// The offset word of the letter carried; 0, which is no letter's, for none.
+fn word_of(carried: Carried) -> u16
+    ensures { λ r. ⌜ r ≡ wordOf carried ⌝ }
+{
+    match carried {
+        Carried::None => 0,
+        Carried::A => offset_of(Letter::A),
+        Carried::B => offset_of(Letter::B),
+        Carried::C => offset_of(Letter::C),
+        Carried::D => offset_of(Letter::D),
+        Carried::CPrime => 0x350,
+    }
+}
+
+// The only letter that the offset word can have: three bits tell the five apart, so that one comparison is left.
+fn likely(offset: u16) -> Carried
+    ensures { λ r. ⌜ r ≡ one (likelyOf offset) ⌝ }
+{
+    match offset / 32 % 8 {
+        0 => Carried::A,
+        1 => Carried::A,
+        2 => Carried::CPrime,
+        3 => Carried::C,
+        4 => Carried::B,
+        5 => Carried::D,
+        6 => Carried::A,
+        _ => Carried::A,
+    }
+}
+
+// The letter whose offset word it is.
+fn letter_with(offset: u16) -> Carried
+    ensures { λ r. ⌜ r ≡ letterWith offset ⌝ }
+{
+    let letter = likely(offset);
+    if offset == word_of(letter) {
+        letter
+    } else {
+        Carried::None
+    }
+}
+
+// Which letter's block the bits are; what has more than 26 bits is none.
+pub fn letter_of(bits: u32) -> Carried
+    ensures { λ r. ⌜ r ≡ letterOf bits ⌝ }
 {
     if bits < 0x400_0000 {
         let info = (bits / 1024) as u16;
         let check = (bits % 1024) as u16;
-        (remainder_of(info) ^ offset_of(letter)) == check
+        letter_with(remainder_of(info) ^ check)
     } else {
-        false
+        Carried::None
+    }
+}
+
+// Which block of a frame carries the letter, 1 to 4; 5 for C', which stands in no frame of ours, and 0 for none.
+pub fn place_of(carried: Carried) -> u32
+    ensures { λ r. ⌜ r ≡ placeOf carried ⌝ }
+{
+    match carried {
+        Carried::None => 0,
+        Carried::A => 1,
+        Carried::B => 2,
+        Carried::C => 3,
+        Carried::D => 4,
+        Carried::CPrime => 5,
     }
 }

@@ -1,4 +1,7 @@
-// What the listing program prints of a frame.
+// What the listing program prints of a frame; the letters program's lines are in `letters`.
+mod letters;
+
+pub use letters::letter_line;
 ghost use mathlib.Core.Path.{_≡_};
 ghost use mathlib.Core.List.{[], _∷_, _++_};
 ghost use Prim.Native.Nat.{_+_, _*_, _<_, _≤_};
@@ -7,7 +10,7 @@ ghost use lib.Seq.{sets};
 ghost use Rattle.lines.specs.Lines.{glyph, hexOf, decimalOf, writtenOf, lineInto};
 
 // 0 to 9, A to F.
-fn hex_glyph(d: u8) -> u8
+pub(crate) fn hex_glyph(d: u8) -> u8
     requires { ⌜ d < 16 ⌝ }
     ensures { λ r. ⌜ r ≡ glyph d ⌝ }
 {

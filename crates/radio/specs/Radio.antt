@@ -4,6 +4,8 @@ use mathlib.Core.List.{List}
 use Prim.Native.Nat.{ℕ}
 use lib.Dec.{ltb, eqb}
 use Rattle.block.specs.declared.Letter.the-variants.{A, B, C, D}
+use Rattle.block.specs.declared.Carried.{Carried}
+use Rattle.block.specs.declared.Carried.the-variants as carried
 use Rattle.receiver.specs.declared.Phase.{Phase}
 use Rattle.receiver.specs.declared.Phase.the-variants.{Hunting, Locked}
 use Rattle.receiver.specs.declared.Receiver.{Receiver}
@@ -51,3 +53,12 @@ outputAfter r d out = cond (ltb 4 (r .phase)) out (receivedInto (receiverOf r) d
 -- what the on-air writer answers, as a record for C
 abbrev pub sentAs : Aired → Sent
 sentAs a = record { answer = a .answer; frames = a .frames }
+
+-- the letters in numbers (paper 02, K2)
+abbrev pub letterNumber : Carried → ℕ
+letterNumber carried.None = 0
+letterNumber carried.A = 1
+letterNumber carried.B = 2
+letterNumber carried.C = 3
+letterNumber carried.CPrime = 4
+letterNumber carried.D = 5

@@ -1,4 +1,5 @@
-// The receiver, the packet check and the on-air writer for programs in C: the same functions, with a receiver's phase as a number.
+// The receiver, the block check, the packet check and the on-air writer for programs in C: the same functions, with a receiver's phase as a number.
+use block::Carried;
 use block::Letter;
 use receiver::Phase;
 use receiver::Received;
@@ -6,7 +7,8 @@ use receiver::Receiver;
 ghost use mathlib.Core.Path.{_≡_};
 ghost use Rattle.crc.specs.Crc16.{crc16};
 ghost use Rattle.air.specs.OnAir.{airedOf, airedInto};
-ghost use Rattle.radio.specs.Radio.{phaseNumber, phaseOf, receiverOf, radioOf, heardAs, freshRadio, heardOf, outputAfter, sentAs};
+ghost use Rattle.block.specs.Letters.{letterOf};
+ghost use Rattle.radio.specs.Radio.{phaseNumber, phaseOf, receiverOf, radioOf, heardAs, freshRadio, heardOf, outputAfter, sentAs, letterNumber};
 
 // A receiver between deliveries: phase 0 hunts, 1 to 4 are locked and expect A, B, C or D.
 #[repr(C)]
@@ -149,4 +151,25 @@ pub extern "C" fn radio_on_air(packet: &[u8], level: u8, version: u8, out: &mut 
         answer: aired.answer,
         frames: aired.frames,
     }
+}
+
+fn letter_number(carried: Carried) -> u32
+    ensures { λ r. ⌜ r ≡ letterNumber carried ⌝ }
+{
+    match carried {
+        Carried::None => 0,
+        Carried::A => 1,
+        Carried::B => 2,
+        Carried::C => 3,
+        Carried::CPrime => 4,
+        Carried::D => 5,
+    }
+}
+
+// The letter that 26 bits carry: 0 for none, 1 to 5 for A, B, C, C' and D.
+#[no_mangle]
+pub extern "C" fn radio_letter(bits: u32) -> u32
+    ensures { λ r. ⌜ r ≡ letterNumber (letterOf bits) ⌝ }
+{
+    letter_number(block::letter_of(bits))
 }

@@ -14,7 +14,7 @@ use Rattle.laws.proofs.Bits.{Under, at-left, at-right, at-below, bits-at, bits-
 use Rattle.laws.proofs.ByteFields.{at-parts}
 use Rattle.block.specs.declared.Letter.{Letter}
 use Rattle.block.specs.declared.Letter.the-variants.{A, B, C, D}
-use Rattle.block.specs.Block.{offsetOf, checkWord, isValid}
+use Rattle.block.specs.Block.{offsetOf, checkWord, carries, isValid}
 use Rattle.frame.specs.OnAir.{blockBits, frameBits}
 use Rattle.frame.proofs.OnAir.{block-number}
 use Rattle.receiver.specs.declared.Phase.{Phase}
@@ -64,7 +64,7 @@ sent-last (y ∷ xs) x p g =
 
 -- a valid block's bits are those of its information word and no others
 block-there : (l : List ℕ) (x : Letter) → 26 ≤ length l → Under 2 l → isValid (at l 0 26) x ≡ true → take 26 l ≡ blockBits (at l 0 16) x
-unfolding isValid
+unfolding isValid carries
 block-there l x k u v =
     let n = at l 0 26 in
     let e : checkWord (n / 2 ^ 10) (offsetOf x) ≡ n % 2 ^ 10 = eqb-true _ _ (and-right (ltb n (2 ^ 26)) (eqb (checkWord (n / 2 ^ 10) (offsetOf x)) (n % 2 ^ 10)) v) in

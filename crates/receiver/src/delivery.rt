@@ -15,11 +15,24 @@ fn byte_at(delivery: &[u8], i: usize) -> u64
     }
 }
 
-// Five bytes as one number.
+// Five bytes as one number, where all are there.
+fn inside_at(delivery: &[u8], i: usize) -> u64
+    requires { ⌜ i + 5 ≤ length (now delivery) ⌝ }
+    ensures { λ r. ⌜ r ≡ at (bits (now (delivery .entry))) (i * 8) 40 ⌝ }
+{
+    let a = delivery[i] as u64 * 256 + delivery[i + 1] as u64;
+    let b = delivery[i + 2] as u64 * 256 + delivery[i + 3] as u64;
+    (a * 65536 + b) * 256 + delivery[i + 4] as u64
+}
+
+// Five bytes as one number; past the end they are 0.
 fn wide_at(delivery: &[u8], i: usize) -> u64
     requires { ⌜ i ≤ 512 ⌝ }
     ensures { λ r. ⌜ r ≡ at (bits (now (delivery .entry))) (i * 8) 40 ⌝ }
 {
+    if i + 5 <= delivery.len() {
+        return inside_at(delivery, i);
+    }
     let a = byte_at(delivery, i) * 256 + byte_at(delivery, i + 1);
     let b = byte_at(delivery, i + 2) * 256 + byte_at(delivery, i + 3);
     (a * 65536 + b) * 256 + byte_at(delivery, i + 4)

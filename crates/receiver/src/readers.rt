@@ -6,6 +6,8 @@ ghost use Prim.Native.Nat.{_*_, _%_, _^_, _≤_, _<_};
 ghost use lib.ListN.{length};
 ghost use lib.Seq.{sets};
 ghost use Rattle.laws.specs.Bits.{bitsOf};
+ghost use Rattle.block.specs.Block.{isValid};
+ghost use Rattle.block.specs.Letters.{anyOf, one, placeOf};
 ghost use Rattle.receiver.specs.Rule.{complete};
 ghost use Rattle.receiver.specs.Receive.{before, joined};
 ghost use Rattle.receiver.specs.Readers.{goingOf, readOf, hunted, followedOn, Ready};
@@ -74,6 +76,24 @@ fn block_passed(room: &mut [u8], letter: Letter, words: u64, frames: usize) -> G
     }
 }
 
+fn expected_place(letter: Letter) -> u32
+    ensures { λ r. ⌜ r ≡ placeOf (one (anyOf letter)) ⌝ }
+{
+    match letter {
+        Letter::A => 1,
+        Letter::B => 2,
+        Letter::C => 3,
+        Letter::D => 4,
+    }
+}
+
+// Whether the bits carry the letter expected: both readers ask here.
+fn carries(block: u32, letter: Letter) -> bool
+    ensures { λ r. ⌜ r ≡ isValid block letter ⌝ }
+{
+    block::place_of(block::letter_of(block)) == expected_place(letter)
+}
+
 // Looks at the latest 26 bits, with each bit more, until they are a block A; 32 bits at a time pass by where none can be.
 pub(crate) fn hunting(
     delivery: &[u8],
@@ -101,7 +121,7 @@ pub(crate) fn hunting(
                 held = block;
                 count += 1;
             } else {
-                if block::valid(block, Letter::A) {
+                if carries(block, Letter::A) {
                     return locked(
                         delivery,
                         room,
@@ -150,7 +170,7 @@ pub(crate) fn locked(
     while 26 - count as usize <= delivery.len() * 8 - from {
         let block = followed(held, delivery, from, 26 - count);
         from += 26 - count as usize;
-        if !block::valid(block, letter) {
+        if !carries(block, letter) {
             return hunting(delivery, room, 0, 0, from, frames);
         }
         let next = block_passed(room, letter, words * 65536 + (block / 1024) as u64, frames);

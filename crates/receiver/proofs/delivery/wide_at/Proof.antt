@@ -4,6 +4,15 @@ use borrow.Author.Needs.{needs}
 use Rattle.receiver.proofs.delivery.wide_at.Statement.{statement}
 use Rattle.receiver.proofs.delivery.wide_at.Tie as tie
 
+add-if1 : tie.Need-add-if1
+add-if1 c = search needs
+
+inside-at-requires : tie.Need-inside-at-requires
+inside-at-requires c κs = search needs
+
+returns : tie.Need-returns
+returns c = c .inside-at .ensures
+
 byte-at-requires : tie.Need-byte-at-requires
 byte-at-requires c κs = search needs
 
@@ -55,13 +64,16 @@ byte-at-requires-5 c κs = search needs
 add-result-2 : tie.Need-add-result-2
 add-result-2 c = search needs
 
-returns : tie.Need-returns
-returns c = five (c .before .before .before .before .before .before .args .delivery .now) (c .before .before .before .before .before .before .args .i) _ _ _ _ _ (c .before .before .before .before .byte-at .ensures) (c .before .before .before .byte-at2 .ensures) (c .before .before .byte-at3 .ensures) (c .before .byte-at4 .ensures) (c .byte-at5 .ensures)
+returns-2 : tie.Need-returns-2
+returns-2 c = five (c .before .before .before .before .before .before .before .args .delivery .now) (c .before .before .before .before .before .before .before .args .i) _ _ _ _ _ (c .before .before .before .before .byte-at .ensures) (c .before .before .before .byte-at2 .ensures) (c .before .before .byte-at3 .ensures) (c .before .byte-at4 .ensures) (c .byte-at5 .ensures)
 
 pub wide-at-spec : {M : Type 1} → statement M
 wide-at-spec =
     tie.close
     (tie.spec
+    add-if1
+    inside-at-requires
+    returns
     byte-at-requires
     mul-a
     add-byte-at
@@ -79,4 +91,4 @@ wide-at-spec =
     add-byte-at-4
     byte-at-requires-5
     add-result-2
-    returns)
+    returns-2)

@@ -19,7 +19,7 @@ use Rattle.receiver.proofs.readers.+hunting+locked.Lts-hunting as hunti
 use Rattle.receiver.proofs.readers.locked.Reads as locked
 use Rattle.receiver.proofs.readers.locked.Kinds as locked-kinds
 use Rattle.receiver.proofs.readers.+hunting+locked.Lts-locked as locked-lts
-use Rattle.block.proofs.valid.Reads as valid-reads
+use Rattle.receiver.proofs.readers.carries.Reads as carries-reads
 use Rattle.receiver.proofs.delivery.bit_at.Reads as bit-at-reads
 use Rattle.receiver.proofs.delivery.followed.Reads as followed-reads
 use Rattle.receiver.proofs.delivery.word_at.Reads as word-at-reads
@@ -47,10 +47,10 @@ abbrev locked-below : ℕ → In 2 locked-kinds.ps
 locked-below t = and 2 locked-kinds.ps (falls 2 locked-kinds.ps _<_ μ-locked t) locked.Pre
 
 abbrev hunting-env : ℕ → hunting-lts.Claims
-hunting-env t = (passing-reads.Asked, passing-reads.Learnt, word-at-reads.Asked, word-at-reads.Learnt, bit-at-reads.Asked, bit-at-reads.Learnt, valid-reads.Asked, valid-reads.Learnt, locked-below t, locked.Post)
+hunting-env t = (passing-reads.Asked, passing-reads.Learnt, word-at-reads.Asked, word-at-reads.Learnt, bit-at-reads.Asked, bit-at-reads.Learnt, carries-reads.Asked, carries-reads.Learnt, locked-below t, locked.Post)
 
 abbrev locked-env : ℕ → locked-lts.Claims
-locked-env t = (followed-reads.Asked, followed-reads.Learnt, valid-reads.Asked, valid-reads.Learnt, hunting-below t, hunting.Post, block-passed-reads.Asked, block-passed-reads.Learnt)
+locked-env t = (followed-reads.Asked, followed-reads.Learnt, carries-reads.Asked, carries-reads.Learnt, hunting-below t, hunting.Post, block-passed-reads.Asked, block-passed-reads.Learnt)
 
 abbrev hunting-Inv-loop : hunting-lts.InvT-loop
 hunting-Inv-loop delivery room₀ held count from frames held₀ count₀ from₀ room held' count' from' =
@@ -104,8 +104,8 @@ hunting-loop-less-2 t c = omega (arith, c .before .before .before .before .loop-
 hunting-loop-again-2 : (t : ℕ) → hunting-lts.Need-loop-again-2 (hunting-env t) (hunting-at t) hunting.Post hunting-Inv-loop hunting-μ-loop
 hunting-loop-again-2 t c = hunt-fill (c .before .before .before .before .before .loop .inv) (c .before .bit-at .result) (c .before .before .before .before .loop-test .taken) (c .before .bit-at .ensures) (c .if2 .taken)
 
-hunting-valid-requires : (t : ℕ) → hunting-lts.Need-valid-requires (hunting-env t) (hunting-at t) hunting.Post hunting-Inv-loop hunting-μ-loop
-hunting-valid-requires t c κs = search needs
+hunting-carries-requires : (t : ℕ) → hunting-lts.Need-carries-requires (hunting-env t) (hunting-at t) hunting.Post hunting-Inv-loop hunting-μ-loop
+hunting-carries-requires t c κs = search needs
 
 hunting-cast-locked : (t : ℕ) → hunting-lts.Need-cast-locked (hunting-env t) (hunting-at t) hunting.Post hunting-Inv-loop hunting-μ-loop
 hunting-cast-locked t c = omega (arith, small-26 (c .before .before .before .before .before .before .before .before .loop .inv) (c .before .before .before .before .bit-at .result) (c .before .before .before .before .before .before .before .loop-test .taken) (c .before .before .before .before .bit-at .ensures))
@@ -113,24 +113,24 @@ hunting-cast-locked t c = omega (arith, small-26 (c .before .before .before .bef
 hunting-locked-requires : (t : ℕ) → hunting-lts.Need-locked-requires (hunting-env t) (hunting-at t) hunting.Post hunting-Inv-loop hunting-μ-loop
 hunting-locked-requires t c κs =
     let a = c .before .before .before .before .before .before .before .before .loop .inv in
-    let g = hunt-lock (c .before .before .before .before .before .before .before .before .loop .inv) (c .before .before .before .before .bit-at .result) (c .before .before .before .before .before .before .before .loop-test .taken) (c .before .before .before .before .bit-at .ensures) (c .before .before .before .if2 .left) (sym (c .before .before .valid .ensures) ∙ c .before .if3 .taken) in
+    let g = hunt-lock (c .before .before .before .before .before .before .before .before .loop .inv) (c .before .before .before .before .bit-at .result) (c .before .before .before .before .before .before .before .loop-test .taken) (c .before .before .before .before .bit-at .ensures) (c .before .before .before .if2 .left) (sym (c .before .before .carries .ensures) ∙ c .before .if3 .taken) in
     (omega (arith, g .later, c .before .before .before .before .before .before .before .before .before .before .before .pre .0, a .later, c .before .before .before .before .before .before .before .loop-test .taken), (g .ready, omega (arith, small-26 (c .before .before .before .before .before .before .before .before .loop .inv) (c .before .before .before .before .bit-at .result) (c .before .before .before .before .before .before .before .loop-test .taken) (c .before .before .before .before .bit-at .ensures))))
 
 hunting-same-length : (t : ℕ) → hunting-lts.Need-same-length (hunting-env t) (hunting-at t) hunting.Post hunting-Inv-loop hunting-μ-loop
 hunting-same-length t c =
-    let g = hunt-lock (c .before .before .before .before .before .before .before .before .before .before .before .loop .inv) (c .before .before .before .before .before .before .before .bit-at .result) (c .before .before .before .before .before .before .before .before .before .before .loop-test .taken) (c .before .before .before .before .before .before .before .bit-at .ensures) (c .before .before .before .before .before .before .if2 .left) (sym (c .before .before .before .before .before .valid .ensures) ∙ c .before .before .before .before .if3 .taken) in
+    let g = hunt-lock (c .before .before .before .before .before .before .before .before .before .before .before .loop .inv) (c .before .before .before .before .before .before .before .bit-at .result) (c .before .before .before .before .before .before .before .before .before .before .loop-test .taken) (c .before .before .before .before .before .before .before .bit-at .ensures) (c .before .before .before .before .before .before .if2 .left) (sym (c .before .before .before .before .before .carries .ensures) ∙ c .before .before .before .before .if3 .taken) in
     c .before .before .locked .kept .1 .0 ∙ g .onward .same
 
 hunting-returns : (t : ℕ) → hunting-lts.Need-returns (hunting-env t) (hunting-at t) hunting.Post hunting-Inv-loop hunting-μ-loop
 hunting-returns t c =
-    let g = hunt-lock (c .before .before .before .before .before .before .before .before .before .before .before .loop .inv) (c .before .before .before .before .before .before .before .bit-at .result) (c .before .before .before .before .before .before .before .before .before .before .loop-test .taken) (c .before .before .before .before .before .before .before .bit-at .ensures) (c .before .before .before .before .before .before .if2 .left) (sym (c .before .before .before .before .before .valid .ensures) ∙ c .before .before .before .before .if3 .taken) in
+    let g = hunt-lock (c .before .before .before .before .before .before .before .before .before .before .before .loop .inv) (c .before .before .before .before .before .before .before .bit-at .result) (c .before .before .before .before .before .before .before .before .before .before .loop-test .taken) (c .before .before .before .before .before .before .before .bit-at .ensures) (c .before .before .before .before .before .before .if2 .left) (sym (c .before .before .before .before .before .carries .ensures) ∙ c .before .before .before .before .if3 .taken) in
     handed (g .onward) _ _ (c .before .before .locked .ensures)
 
 hunting-loop-less-3 : (t : ℕ) → hunting-lts.Need-loop-less-3 (hunting-env t) (hunting-at t) hunting.Post hunting-Inv-loop hunting-μ-loop
 hunting-loop-less-3 t c = omega (arith, c .before .before .before .before .before .before .loop-test .taken)
 
 hunting-loop-again-3 : (t : ℕ) → hunting-lts.Need-loop-again-3 (hunting-env t) (hunting-at t) hunting.Post hunting-Inv-loop hunting-μ-loop
-hunting-loop-again-3 t c = hunt-slide (c .before .before .before .before .before .before .before .loop .inv) (c .before .before .before .bit-at .result) (c .before .before .before .before .before .before .loop-test .taken) (c .before .before .before .bit-at .ensures) (c .before .before .if2 .left) (sym (c .before .valid .ensures) ∙ c .if3 .left)
+hunting-loop-again-3 t c = hunt-slide (c .before .before .before .before .before .before .before .loop .inv) (c .before .before .before .bit-at .result) (c .before .before .before .before .before .before .loop-test .taken) (c .before .before .before .bit-at .ensures) (c .before .before .if2 .left) (sym (c .before .carries .ensures) ∙ c .if3 .left)
 
 hunting-same-length-2 : (t : ℕ) → hunting-lts.Need-same-length-2 (hunting-env t) (hunting-at t) hunting.Post hunting-Inv-loop hunting-μ-loop
 hunting-same-length-2 t c = c .before .loop .inv .onward .same
@@ -178,25 +178,25 @@ locked-sub-from t c = omega (arith, c .before .before .loop .inv .0 .ready .pend
 locked-add-from : (t : ℕ) → locked-lts.Need-add-from (locked-env t) (locked-at t) locked.Post locked-Inv-loop locked-μ-loop
 locked-add-from t c = omega (arith, c .before .before .loop .inv .0 .ready .inside, c .before .before .loop .inv .0 .ready .short)
 
-locked-valid-requires : (t : ℕ) → locked-lts.Need-valid-requires (locked-env t) (locked-at t) locked.Post locked-Inv-loop locked-μ-loop
-locked-valid-requires t c κs = search needs
+locked-carries-requires : (t : ℕ) → locked-lts.Need-carries-requires (locked-env t) (locked-at t) locked.Post locked-Inv-loop locked-μ-loop
+locked-carries-requires t c κs = search needs
 
 locked-hunting-requires : (t : ℕ) → locked-lts.Need-hunting-requires (locked-env t) (locked-at t) locked.Post locked-Inv-loop locked-μ-loop
 locked-hunting-requires t c κs =
     let l = c .before .before .before .before .before .loop in
-    let g = lock-drop (l .letter) (l .words) (l .inv .0) (l .inv .1) (c .before .before .before .followed .result) (c .before .before .before .before .loop-test .taken) (c .before .before .before .followed .ensures) (sym (c .before .before .valid .ensures) ∙ not-true _ (c .before .if1 .taken)) in
+    let g = lock-drop (l .letter) (l .words) (l .inv .0) (l .inv .1) (c .before .before .before .followed .result) (c .before .before .before .before .loop-test .taken) (c .before .before .before .followed .ensures) (sym (c .before .before .carries .ensures) ∙ not-true _ (c .before .if1 .taken)) in
     (omega (arith, l .inv .0 .later, c .before .before .before .before .before .before .before .before .pre .0, l .inv .0 .ready .pending, c .before .before .before .before .loop-test .taken), g .ready)
 
 locked-same-length : (t : ℕ) → locked-lts.Need-same-length (locked-env t) (locked-at t) locked.Post locked-Inv-loop locked-μ-loop
 locked-same-length t c =
     let l = c .before .before .before .before .before .before .before .before .loop in
-    let g = lock-drop (l .letter) (l .words) (l .inv .0) (l .inv .1) (c .before .before .before .before .before .before .followed .result) (c .before .before .before .before .before .before .before .loop-test .taken) (c .before .before .before .before .before .before .followed .ensures) (sym (c .before .before .before .before .before .valid .ensures) ∙ not-true _ (c .before .before .before .before .if1 .taken)) in
+    let g = lock-drop (l .letter) (l .words) (l .inv .0) (l .inv .1) (c .before .before .before .before .before .before .followed .result) (c .before .before .before .before .before .before .before .loop-test .taken) (c .before .before .before .before .before .before .followed .ensures) (sym (c .before .before .before .before .before .carries .ensures) ∙ not-true _ (c .before .before .before .before .if1 .taken)) in
     c .before .before .hunting .kept .1 .0 ∙ g .onward .same
 
 locked-returns : (t : ℕ) → locked-lts.Need-returns (locked-env t) (locked-at t) locked.Post locked-Inv-loop locked-μ-loop
 locked-returns t c =
     let l = c .before .before .before .before .before .before .before .before .loop in
-    let g = lock-drop (l .letter) (l .words) (l .inv .0) (l .inv .1) (c .before .before .before .before .before .before .followed .result) (c .before .before .before .before .before .before .before .loop-test .taken) (c .before .before .before .before .before .before .followed .ensures) (sym (c .before .before .before .before .before .valid .ensures) ∙ not-true _ (c .before .before .before .before .if1 .taken)) in
+    let g = lock-drop (l .letter) (l .words) (l .inv .0) (l .inv .1) (c .before .before .before .before .before .before .followed .result) (c .before .before .before .before .before .before .before .loop-test .taken) (c .before .before .before .before .before .before .followed .ensures) (sym (c .before .before .before .before .before .carries .ensures) ∙ not-true _ (c .before .before .before .before .if1 .taken)) in
     handed (g .onward) _ _ (c .before .before .hunting .ensures)
 
 locked-mul-block-passed : (t : ℕ) → locked-lts.Need-mul-block-passed (locked-env t) (locked-at t) locked.Post locked-Inv-loop locked-μ-loop
@@ -223,7 +223,7 @@ locked-loop-less t c = omega (arith, c .before .before .before .before .before .
 locked-loop-again : (t : ℕ) → locked-lts.Need-loop-again (locked-env t) (locked-at t) locked.Post locked-Inv-loop locked-μ-loop
 locked-loop-again t c =
     let l = c .before .before .before .before .before .before .before .before .loop in
-    lock-on (l .letter) (l .words) (l .inv .0) (l .inv .1) (c .before .before .before .before .before .before .followed .result) (c .before .before .before .before .before .before .before .loop-test .taken) (c .before .before .before .before .before .before .followed .ensures) (sym (c .before .before .before .before .before .valid .ensures) ∙ not-false _ (c .before .before .before .before .if1 .left)) (c .before .before .block-passed .result) (c .before .before .block-passed .last .0) (c .before .before .block-passed .ensures .0) (c .before .before .block-passed .ensures .1) (c .before .before .block-passed .kept .0)
+    lock-on (l .letter) (l .words) (l .inv .0) (l .inv .1) (c .before .before .before .before .before .before .followed .result) (c .before .before .before .before .before .before .before .loop-test .taken) (c .before .before .before .before .before .before .followed .ensures) (sym (c .before .before .before .before .before .carries .ensures) ∙ not-false _ (c .before .before .before .before .if1 .left)) (c .before .before .block-passed .result) (c .before .before .block-passed .last .0) (c .before .before .block-passed .ensures .0) (c .before .before .block-passed .ensures .1) (c .before .before .block-passed .kept .0)
 
 locked-mul-left : (t : ℕ) → locked-lts.Need-mul-left (locked-env t) (locked-at t) locked.Post locked-Inv-loop locked-μ-loop
 locked-mul-left t c = omega (arith, c .before .before .before .before .pre .1 .0 .short)
@@ -271,7 +271,7 @@ pub +hunting+locked-spec : {M : Type 1} → statement M
     (hunting-add-count t)
     (hunting-loop-less-2 t)
     (hunting-loop-again-2 t)
-    (hunting-valid-requires t)
+    (hunting-carries-requires t)
     (hunting-cast-locked t)
     (hunting-locked-requires t)
     (hunting-same-length t)
@@ -295,7 +295,7 @@ pub +hunting+locked-spec : {M : Type 1} → statement M
     (locked-cast-from t)
     (locked-sub-from t)
     (locked-add-from t)
-    (locked-valid-requires t)
+    (locked-carries-requires t)
     (locked-hunting-requires t)
     (locked-same-length t)
     (locked-returns t)
