@@ -13,6 +13,7 @@ from model.on_air import on_air
 from model.packet import Fields
 from model.reader import read
 from model.writer import write
+from model import story
 
 from . import records, worked
 
@@ -139,8 +140,35 @@ def whole_way():
     yield named("read", records.reading(sent), "read 0", "text 0 " + story.hex().upper())
 
 
+def stories():
+    """The girl's sentence with its semicolon, told and joined; five times over in three parts, joined in another order; and what is refused."""
+    def told(text, room=2250, last=41, codes=0):
+        digits = [7] * 31 + [int(d) for d in "%04d" % last]
+        return records.telling(2, digits, codes, [1] * 23 * codes, 0x01020304, [1, 2, 3, 4, 5, 6, 7, 8, 9, 0, 1, 2], bytes(range(64)), text, room)
+
+    one = bytes.fromhex(worked.GIRL_PACKET)
+    yield named("a sentence with its semicolon", told(worked.GIRL), "tell 0 1 " + worked.GIRL_PACKET.upper())
+    yield named("the same joined", records.joining(one, 64), "join 0 " + worked.GIRL.hex().upper())
+    yield named("the same into 63 bytes", records.joining(one, 63), "join 10 -")
+    sent = story.tell(2, worked.GIRL_NUMBER, 0, [], 0x01020304, [1, 2, 3, 4, 5, 6, 7, 8, 9, 0, 1, 2], bytes(range(64)), worked.LONG, 2250)[2]
+    a, b, c = (sent[i : i + n] for i, n in zip((0, 250, 500), worked.LONG_SIZES))
+    yield named("five times over", told(worked.LONG), "tell 0 3 " + sent.hex().upper())
+    for some in (a + b + c, c + a + b, b + a + c, c + b + a):
+        yield named("its parts joined", records.joining(some, 320), "join 0 " + worked.LONG.hex().upper())
+    for some, name in ((a + b, "a part missing"), (a + b + b, "a part twice"), (a + b + c[:-1], "a part cut short"), (b"", "no packet")):
+        yield named(name, records.joining(some, 320), "join 33 -")
+    yield named("no text", told(b""), "tell 0 1 ")
+    yield named("13 codes", told(b"", codes=13), "tell 20 0 -")
+    yield named("a lone last byte", told(b"A\xb0"), "tell 30 0 -")
+    yield named("nine parts full", told(b"A" * 1341, room=2250), "tell 0 9 ")
+    yield named("one byte more", told(b"A" * 1342), "tell 31 0 -")
+    yield named("numbers to 9999", told(worked.LONG, last=9997), "tell 0 3 ")
+    yield named("numbers past 9999", told(worked.LONG, last=9998), "tell 32 0 -")
+    yield named("room for one byte less", told(worked.LONG, room=622), "tell 10 0 -")
+
+
 def everything():
-    for some in (checks, packets, written, small, deliveries, collected, damaged, whole_way):
+    for some in (checks, packets, written, small, deliveries, collected, damaged, whole_way, stories):
         yield from some()
     yield named("a record cut short", b"P")
 

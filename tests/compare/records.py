@@ -1,5 +1,5 @@
 """Records of the program ask, and what it should print of them. All numbers are written high byte first."""
-from model import on_air, reader, writer
+from model import on_air, reader, story, writer
 from model.checks import packet_check
 from model.collector import Collector, Place
 from model.packet import Fields
@@ -58,11 +58,20 @@ def placing(i, held, level, version, total, number):
     return b"H" + bytes((i, held, level, version, total, number))
 
 
+def telling(kind, digits, count, codes, time, certificate, signature, text, room):
+    return (b"T" + bytes((kind,)) + two(count) + bytes(digits) + time.to_bytes(4, "big") + bytes(certificate) + signature + two(room)
+            + two(len(codes)) + two(len(text)) + bytes(codes) + text)
+
+
+def joining(packets, room):
+    return b"J" + two(room) + two(len(packets)) + packets
+
+
 def naming(name):
     return b"#" + bytes((len(name),)) + name.encode()
 
 
-HEADS = {b"#": 2, b"P": 3, b"W": 133, b"A": 7, b"R": 5, b"O": 3, b"F": 3, b"C": 5, b"N": 1, b"K": 3, b"S": 6, b"H": 7}
+HEADS = {b"#": 2, b"P": 3, b"W": 133, b"A": 7, b"R": 5, b"O": 3, b"F": 3, b"C": 5, b"N": 1, b"K": 3, b"S": 6, b"H": 7, b"T": 125, b"J": 5}
 
 
 def number(b, i):
@@ -78,7 +87,7 @@ def length(b):
     if letter == b"#":
         whole = head + b[1]
     else:
-        whole = head + (0 if letter in b"FCNSH" else number(b, head - 2)) + (number(b, 129) if letter == b"W" else 0)
+        whole = head + (0 if letter in b"FCNSH" else number(b, head - 2)) + (number(b, head - 4) if letter in b"WT" else 0)
     return whole if whole <= len(b) else 0
 
 
@@ -100,6 +109,13 @@ def fields_of(b):
     fields = Fields(b[1], number(b, 2), (name, *numbers), list(b[12:47]), int.from_bytes(b[47:51], "big"), list(b[51:63]), b[63:127])
     end = 133 + number(b, 129)
     return fields, list(b[133:end]), list(b[end:]), min(number(b, 127), 300)
+
+
+def story_of(b):
+    """What a T asks."""
+    end = 125 + number(b, 121)
+    return (b[1], list(b[4:39]), number(b, 2), list(b[125:end]), int.from_bytes(b[39:43], "big"), list(b[43:55]), b[55:119], b[end:],
+            min(number(b, 119), 2300))
 
 
 def hexed(b):
@@ -148,6 +164,12 @@ class Program:
         if letter == b"C":
             answer, packet = self.collector.copy(record[1], record[2], min(number(record, 3), 300))
             return ["copy %d %s" % (answer, hexed(packet)), "the rest as it was"]
+        if letter == b"T":
+            answer, parts, told = story.tell(*story_of(record))
+            return ["tell %d %d %s" % (answer, parts, hexed(told)), "the rest as it was"]
+        if letter == b"J":
+            answer, text = story.join(record[5:], min(number(record, 1), 1400))
+            return ["join %d %s" % (answer, hexed(text)), "the rest as it was"]
         if letter == b"K":
             return ["check %04X" % packet_check(record[3:])]
         if letter == b"S":
@@ -200,6 +222,10 @@ def said_of(record):
         return "begin anew"
     if letter == b"#":
         return "name " + record[2:].decode()
+    if letter == b"T":
+        return "tell kind %d, number %s, %d codes %s, time %d, certificate %s, signature %s, text %r, into %d bytes" % story_of(record)
+    if letter == b"J":
+        return "join into %d bytes %s" % (number(record, 1), hexed(record[5:]))
     if letter == b"K":
         return "check " + hexed(record[3:])
     if letter == b"S":

@@ -67,6 +67,13 @@ def fields(record, size):
             yield record[:5] + two(fewer) + record[7:131] + two(len(less)) + codes + less
 
 
+def told(record, size):
+    """A story with some of its text left out."""
+    at = 125 + number(record, 121)
+    for less in without(record[at:], size):
+        yield record[:123] + two(len(less)) + record[125:at] + less
+
+
 def key(record):
     """Fewer bytes, then more zeros."""
     return len(record), len(record) - record.count(0)
@@ -77,7 +84,9 @@ def tries(record, size):
     letter = record[:1]
     if letter == b"W":
         return [*fields(record, size), *zeroed(record, 1, 127, size), *zeroed(record, 133, len(record), size)]
-    if letter in (b"A", b"R"):
+    if letter == b"T":
+        return [*told(record, size), *zeroed(record, 4, 119, size), *zeroed(record, 125, len(record), size)]
+    if letter in (b"A", b"R", b"J"):
         head = HEADS[letter]
         return [*packets(record, head, size), *zeroed(record, 1, head - 2, size), *zeroed(record, head, len(record), size)]
     if letter == b"P":

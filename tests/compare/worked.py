@@ -158,3 +158,13 @@ COLLECTOR = (
     ("offer", "2204B000A80089D8", 1, "the fifth pair in the place made free"),
     ("offer", "A30CB002D124FFFF", 16, "the pair released, with no place left"),
 )
+
+# A girl's sentence with its semicolon, as a story of one part: kind 2, no code, message number 7 in all places but the last four, 0041. Its body is
+# the head 1/1 and a space, and the sentence: 68 bytes, so the packet has 97 and 68.
+GIRL = b"The wave came over the wall; then the water went a long way out."
+GIRL_NUMBER = [7] * 31 + [0, 0, 4, 1]
+GIRL_PACKET = "78a300" + "20f" + "7" * 31 + "0041" + "44" + b"1/1 ".hex() + GIRL.hex() + ENDING
+
+# The same sentence five times, 320 bytes: two parts of 149 and one of 22. Numbers 0041 to 0043.
+LONG = GIRL * 5
+LONG_SIZES = (250, 250, 123)

@@ -35,8 +35,8 @@ fn glyph(d: u8) -> u8 {
 
 // A space and two characters a byte; a dash where there is none.
 pub(crate) fn hex(b: &[u8]) {
-    let mut line = [0u8; 2000];
-    let n = input::least(b.len(), 1000);
+    let mut line = [0u8; 4600];
+    let n = input::least(b.len(), 2300);
     let mut i: usize = 0;
     while i < n {
         let x = b[i];
@@ -83,7 +83,7 @@ pub(crate) fn all(b: &[u8], x: u8) -> bool {
 // The bytes that were written at the start of lent memory, which was 0xEE throughout; then whether the rest still is.
 pub(crate) fn memory(lent: &[u8], written: usize) {
     hex(format::part(lent, 0, written));
-    if all(format::part(lent, written, 1000), 0xEE) {
+    if all(format::part(lent, written, 2300), 0xEE) {
         text(b"\nthe rest as it was\n");
     } else {
         text(b"\nthe rest CHANGED\n");

@@ -8,3 +8,4 @@ pub mod Pieces
 pub mod Frames
 pub mod Packets
 pub mod Chain
+pub mod Stories

@@ -7,7 +7,7 @@ use Rattle.ask.proofs.say.hex.Statement.{statement}
 use Rattle.ask.proofs.say.hex.Tie as tie
 
 abbrev Inv-loop : tie.InvT-loop
-Inv-loop b line₀ n i₀ line i = (length line ≡ 2000) × (i ≤ n)
+Inv-loop b line₀ n i₀ line i = (length line ≡ 4600) × (i ≤ n)
 
 abbrev μ-loop : tie.MeasureT-loop
 μ-loop b line₀ n i₀ line i = n - i

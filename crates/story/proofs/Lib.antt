@@ -1,0 +1,10 @@
+pub mod Dealing
+pub mod Fewest
+pub mod Whole
+pub mod Shuffled
+pub mod Cutting
+pub mod Placed
+pub mod Part
+pub mod Back
+pub mod Answers
+pub mod Copying

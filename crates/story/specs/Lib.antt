@@ -1,0 +1,6 @@
+pub mod Characters
+pub mod Telling
+pub mod Joining
+pub mod Divisions
+pub mod Given
+pub mod Examples
