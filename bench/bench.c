@@ -3,8 +3,8 @@
 
 /* Ours, from the static library of crates/radio. A slice is its first byte's address and its length. */
 struct radio {
-    uint32_t phase, bits, count;
-    uint64_t words;
+    uint64_t high, low;
+    uint32_t count;
 };
 struct heard {
     uint8_t answer;
@@ -99,6 +99,18 @@ static void mixture(size_t size)
     }
 }
 
+/* A block A begins at every tenth bit, and no frame anywhere: the ten check bits of each are the first of the next but one. */
+static void false_starts(size_t size)
+{
+    at = 0;
+    uint32_t last = block(0x1234, 0x0FC);
+    put_bits(last, 26, size);
+    while (at < size * 8) {
+        last = block(last & 0xFFFF, 0x0FC);
+        put_bits(last & 0x3FF, 10, size);
+    }
+}
+
 /* A run over the first `size` bytes of air in deliveries of `piece`: how many frames. */
 static size_t ours(size_t size, size_t piece)
 {
@@ -118,7 +130,7 @@ static size_t in_c(receive_fn *receive, size_t size, size_t piece)
 {
     uint8_t out[ROOM];
     size_t frames = 0;
-    struct plain_receiver r = {0, 0, 0, 0};
+    struct plain_receiver r = {0, 0, 0};
     for (size_t i = 0; i < size; i += piece)
         frames += (size_t)receive(&r, air + i, size - i < piece ? size - i : piece, out, ROOM);
     return frames;
@@ -131,12 +143,12 @@ static void differ(const char *where, size_t place)
     wrong = 1;
 }
 
-/* Every delivery: answer, frames, the whole lent output, and the receiver left, as far as its bits mean something. */
+/* Every delivery: answer, frames, the whole lent output, and the receiver left. */
 static void agree(const char *where, receive_fn *receive, size_t size, size_t piece)
 {
     uint8_t mine[ROOM], theirs[ROOM];
     struct radio r = radio_fresh();
-    struct plain_receiver p = {0, 0, 0, 0};
+    struct plain_receiver p = {0, 0, 0};
     for (size_t i = 0; i < ROOM; i++)
         mine[i] = theirs[i] = (uint8_t)i;
     for (size_t i = 0; i < size && !wrong; i += piece) {
@@ -144,11 +156,9 @@ static void agree(const char *where, receive_fn *receive, size_t size, size_t pi
         struct heard h = radio_receive(r, air + i, n, mine, ROOM);
         int frames = receive(&p, air + i, n, theirs, ROOM);
         r = h.radio;
-        uint64_t held = ((uint64_t)1 << r.count) - 1;
-        uint64_t begun = r.phase < 2 ? 0 : ((uint64_t)1 << 16 * (r.phase - 1)) - 1;
         if (h.answer != 0 || frames < 0 || h.frames != (size_t)frames || memcmp(mine, theirs, ROOM) != 0)
             differ(where, i);
-        if (r.phase != p.phase || r.count != p.count || (r.bits & held) != (p.bits & held) || (r.words & begun) != (p.words & begun))
+        if (r.high != p.high || r.low != p.low || r.count != p.count)
             differ(where, i);
     }
 }
@@ -231,10 +241,10 @@ static void on_air_agrees(void)
 static void refusals_agree(void)
 {
     uint8_t out[ROOM];
-    struct plain_receiver p = {0, 0, 26, 0}, q = {0, 0, 0, 0};
-    struct radio r = {0, 0, 26, 0};
+    struct plain_receiver p = {0, 0, 104}, q = {0, 0, 0};
+    struct radio r = {0, 0, 104};
     if (radio_receive(r, air, 1, out, ROOM).answer != -plain_receive(&p, air, 1, out, ROOM))
-        differ("26 bits held", 0);
+        differ("104 bits pending", 0);
     if (radio_receive(radio_fresh(), air, 513, out, ROOM).answer != -plain_receive(&q, air, 513, out, ROOM))
         differ("513 bytes", 0);
     if (radio_receive(radio_fresh(), air, 512, out, 319).answer != -plain_receive(&q, air, 512, out, 319))
@@ -318,12 +328,14 @@ static void head(const char *unit)
 }
 
 typedef void make_fn(size_t size);
-static make_fn *const kinds[3] = {clean, noise, mixture};
-static const char *const names[3] = {"clean air", "noise", "mixture"};
-static const char *const doubled[3][4] = {
+enum { KINDS = 4 };
+static make_fn *const kinds[KINDS] = {clean, noise, mixture, false_starts};
+static const char *const names[KINDS] = {"clean air", "noise", "mixture", "an A every 10 bits"};
+static const char *const doubled[KINDS][4] = {
     {"clean air, 128000 bytes", "clean air, 256000 bytes", "clean air, 512000 bytes", "clean air, 1024000 bytes"},
     {"noise, 128000 bytes", "noise, 256000 bytes", "noise, 512000 bytes", "noise, 1024000 bytes"},
     {"mixture, 128000 bytes", "mixture, 256000 bytes", "mixture, 512000 bytes", "mixture, 1024000 bytes"},
+    {"A's, 128000 bytes", "A's, 256000 bytes", "A's, 512000 bytes", "A's, 1024000 bytes"},
 };
 static const char *const pieces[5] = {"deliveries of 32 bytes", "deliveries of 64 bytes", "deliveries of 128 bytes", "deliveries of 256 bytes", "deliveries of 512 bytes"};
 static const size_t lengths[8] = {2, 77, 250, 64, 128, 256, 512, 1024};
@@ -342,7 +354,7 @@ int main(int argc, char **argv)
     table_prepare();
     if (argc == 5 && strcmp(argv[1], "--only") == 0)
         return only(argv[2][0] - '0', argv[3][0] - '0', (size_t)(argv[4][0] - '0'));
-    for (int k = 0; k < 3; k++) {
+    for (int k = 0; k < KINDS; k++) {
         kinds[k](128 * 1000);
         agree_all(names[k], 128 * 1000);
         printf("%s: %zu frames in 128000 bytes\n", names[k], ours(128 * 1000, PIECE));
@@ -358,11 +370,12 @@ int main(int argc, char **argv)
     if (argc > 1 && strcmp(argv[1], "--same") == 0)
         return 0;
     head("bit");
-    for (int k = 0; k < 3; k++) {
+    for (int k = 0; k < KINDS; k++) {
         kinds[k](MOST);
         for (size_t d = 0, size = MOST / 8; size <= MOST; d++, size *= 2)
             measure(doubled[k][d], receiving, size, PIECE, (double)size * 8);
     }
+    mixture(MOST);
     for (size_t d = 0; d < 5; d++)
         measure(pieces[d], receiving, MOST / 8, (size_t)32 << d, (double)MOST);
     head("byte");

@@ -1,5 +1,6 @@
-/* The rule itself, a bit at a time, for a `valid` that the file that includes it has. */
-static const unsigned offset_of[5] = {0, 0x0FC, 0x198, 0x168, 0x1B4};
+/* The rule itself, a bit at a time, for a `valid` that the file that includes it has: whenever 104 bits are pending they are a frame and go out,
+   or the first of them is given up. */
+static const unsigned offset_of[4] = {0x0FC, 0x198, 0x168, 0x1B4};
 
 static void put_frame(uint8_t *out, uint64_t words)
 {
@@ -7,51 +8,50 @@ static void put_frame(uint8_t *out, uint64_t words)
         out[i] = (uint8_t)(words >> (56 - 8 * i));
 }
 
+/* Block k of the 104 bits pending. */
+static uint32_t pending_block(uint64_t high, uint64_t low, int k)
+{
+    int above = 78 - 26 * k;
+    uint64_t bits = above >= 64 ? high >> (above - 64) : above == 0 ? low : high << (64 - above) | low >> above;
+    return (uint32_t)bits & 0x3FFFFFF;
+}
+
 int RECEIVE(struct plain_receiver *r, const uint8_t *delivery, size_t n, uint8_t *out, size_t room)
 {
-    if (r->count > 25)
+    if (r->count > 103)
         return -28;
     if (n > 512)
         return -11;
     if (room < 320)
         return -10;
-    unsigned phase = r->phase, count = r->count;
-    uint32_t bits = r->bits;
-    uint64_t words = r->words;
+    uint64_t high = r->high, low = r->low;
+    unsigned count = r->count;
     int frames = 0;
     for (size_t i = 0; i < n; i++) {
         for (int k = 7; k >= 0; k--) {
-            bits = (bits << 1 | (delivery[i] >> k & 1)) & 0x3FFFFFF;
-            if (++count < 26)
+            high = high << 1 | low >> 63;
+            low = low << 1 | (delivery[i] >> k & 1);
+            if (++count < 104)
                 continue;
-            if (phase == 0) {
-                if (valid(bits, offset_of[1])) {
-                    words = bits >> 10;
-                    phase = 2;
-                    count = 0;
-                } else {
-                    count = 25;
-                }
-            } else if (valid(bits, offset_of[phase])) {
-                words = words << 16 | bits >> 10;
-                count = 0;
-                if (phase == 4) {
-                    /* 512 bytes and what was held of a frame make no more than 40 frames */
-                    put_frame(out + 8 * frames, words);
-                    frames++;
-                    phase = 1;
-                } else {
-                    phase++;
-                }
-            } else {
-                phase = 0;
+            count = 103;
+            uint64_t words = 0;
+            int letter = 0;
+            for (; letter < 4; letter++) {
+                uint32_t block = pending_block(high, low, letter);
+                if (!valid(block, offset_of[letter]))
+                    break;
+                words = words << 16 | block >> 10;
+            }
+            if (letter == 4) {
+                /* 512 bytes and 103 bits pending make no more than 40 frames */
+                put_frame(out + 8 * frames, words);
+                frames++;
                 count = 0;
             }
         }
     }
-    r->phase = phase;
-    r->bits = bits;
+    r->high = count > 64 ? high & (((uint64_t)1 << (count - 64)) - 1) : 0;
+    r->low = count >= 64 ? low : low & (((uint64_t)1 << count) - 1);
     r->count = count;
-    r->words = words;
     return frames;
 }

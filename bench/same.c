@@ -1,13 +1,6 @@
-/* The same steps as ours, in C: 32 places are asked at once while hunting, 26 bits at a time are taken when locked; check bits by long division. */
+/* The same steps as ours, in C: pending bits and delivery in one buffer, four blocks asked at a place, else 39 places asked at once; check bits by
+   long division. */
 #include "plain.h"
-
-static uint32_t bits_at(const uint8_t *delivery, size_t n, size_t from, unsigned count)
-{
-    uint64_t wide = 0;
-    for (size_t i = from / 8; i < from / 8 + 5; i++)
-        wide = wide << 8 | (i < n ? delivery[i] : 0);
-    return (uint32_t)(wide >> (40 - from % 8 - count) & (((uint64_t)1 << count) - 1));
-}
 
 static unsigned remainder_of(uint32_t p)
 {
@@ -23,78 +16,80 @@ static int valid(uint32_t block, unsigned offset)
 /* Bit k is 1 only where the 26 bits from bit k up may be a block A. */
 static uint64_t marks(uint64_t u)
 {
-    uint64_t t = u ^ u >> 1 ^ u >> 2 ^ u >> 7 ^ u >> 11 ^ u >> 16;
-    return t >> 7 & (t >> 5 ^ u >> 24) & (t >> 7 ^ t >> 8) & (t >> 2 ^ u >> 21 ^ u >> 23) & (t >> 4 ^ t >> 6 ^ u >> 23) & (t >> 3 ^ u >> 22 ^ u >> 24)
-        & (t >> 4 ^ u >> 23 ^ u >> 25) & (t >> 7 ^ t >> 9 ^ u) & (t >> 11 ^ u >> 1 ^ u >> 2 ^ u >> 27) & (t >> 7 ^ t >> 10 ^ u ^ u >> 1 ^ u >> 26);
+    uint64_t e = u ^ u >> 1, t = e ^ u >> 2 ^ u >> 7 ^ u >> 11 ^ u >> 16, v = t ^ u >> 19, w = v ^ u >> 21, z = t >> 10 ^ e ^ u >> 26;
+    return t >> 7 & (t >> 7 ^ t >> 8) & v >> 5 & w >> 2 & w >> 3 & w >> 4 & (v >> 4 ^ t >> 6) & (t >> 7 ^ t >> 9 ^ u) & (t >> 7 ^ z) & z >> 1;
 }
 
-static const unsigned offset_of[5] = {0, 0x0FC, 0x198, 0x168, 0x1B4};
+static const unsigned offset_of[4] = {0x0FC, 0x198, 0x168, 0x1B4};
+
+static uint64_t four(const uint8_t *b, size_t i)
+{
+    return (uint64_t)b[i] << 24 | (uint64_t)b[i + 1] << 16 | (uint64_t)b[i + 2] << 8 | b[i + 3];
+}
+
+static uint64_t eight(const uint8_t *b, size_t i)
+{
+    return four(b, i) << 32 | four(b, i + 4);
+}
+
+static uint64_t window(const uint8_t *b, size_t from)
+{
+    size_t i = from / 8;
+    unsigned s = from % 8;
+    return (four(b, i) << (32 + s)) + (four(b, i + 4) << s) + (uint64_t)(b[i + 8] >> (8 - s));
+}
+
+static void put_eight(uint8_t *out, uint64_t x)
+{
+    for (int i = 0; i < 8; i++)
+        out[i] = (uint8_t)(x >> (56 - 8 * i));
+}
+
+/* The first place from `from` on that is marked, or the last. */
+static size_t open_from(const uint8_t *b, size_t from, size_t last)
+{
+    while (from < last) {
+        uint64_t m = marks(window(b, from)) & 0x7FFFFFFFFF;
+        if (m != 0) {
+            from += (size_t)__builtin_clzll(m) - 25;
+            return from < last ? from : last;
+        }
+        from += 39;
+    }
+    return last;
+}
 
 int same_receive(struct plain_receiver *r, const uint8_t *delivery, size_t n, uint8_t *out, size_t room)
 {
-    if (r->count > 25)
+    if (r->count > 103)
         return -28;
     if (n > 512)
         return -11;
     if (room < 320)
         return -10;
-    size_t from = 0, end = n * 8;
-    unsigned phase = r->phase, count = r->count;
-    uint32_t held = r->bits & ((1u << count) - 1);
-    uint64_t words = r->words;
+    uint8_t b[536] = {0};
+    put_eight(b, r->high);
+    put_eight(b + 8, r->low);
+    for (size_t i = 0; i < n; i++)
+        b[16 + i] = delivery[i];
+    size_t end = (16 + n) * 8, from = 128 - r->count;
     int frames = 0;
-    for (;;) {
-        if (phase == 0) {
-            if (from == end)
-                break;
-            if (from % 32 == 0 && count == 25 && from + 32 <= end) {
-                const uint8_t *b = delivery + from / 8;
-                uint64_t next = (uint64_t)b[0] << 24 | (uint64_t)b[1] << 16 | (uint64_t)b[2] << 8 | b[3];
-                if ((uint32_t)marks((uint64_t)held << 32 | next) == 0) {
-                    held = next & 0x1FFFFFF;
-                    from += 32;
-                    continue;
-                }
-            }
-            uint32_t block = held << 1 | (delivery[from / 8] >> (7 - from % 8) & 1);
-            from++;
-            if (count < 25) {
-                held = block;
-                count++;
-            } else if (valid(block, offset_of[1])) {
-                words = block >> 10;
-                phase = 2;
-                held = count = 0;
-            } else {
-                held = block & 0x1FFFFFF;
-            }
+    while (from + 104 <= end) {
+        uint64_t x = window(b, from), y = window(b, from + 52);
+        uint32_t a = (uint32_t)(x >> 38), p = (uint32_t)(x >> 12) & 0x3FFFFFF, q = (uint32_t)(y >> 38), d = (uint32_t)(y >> 12) & 0x3FFFFFF;
+        if (valid(a, offset_of[0]) && valid(p, offset_of[1]) && valid(q, offset_of[2]) && valid(d, offset_of[3])) {
+            put_eight(out + 8 * frames, (uint64_t)(a >> 10) << 48 | (uint64_t)(p >> 10) << 32 | (uint64_t)(q >> 10) << 16 | d >> 10);
+            frames++;
+            from += 104;
         } else {
-            if (26 - count > end - from) {
-                unsigned left = (unsigned)(end - from);
-                held = held << left | bits_at(delivery, n, from, left);
-                count += left;
-                break;
-            }
-            uint32_t block = held << (26 - count) | bits_at(delivery, n, from, 26 - count);
-            from += 26 - count;
-            held = count = 0;
-            if (!valid(block, offset_of[phase])) {
-                phase = 0;
-                continue;
-            }
-            words = words << 16 | block >> 10;
-            if (phase++ == 4) {
-                for (int i = 0; i < 8; i++)
-                    out[8 * frames + i] = (uint8_t)(words >> (56 - 8 * i));
-                frames++;
-                phase = 1;
-            }
+            from = open_from(b, from + 1, end - 103);
         }
     }
-    r->phase = phase;
-    r->bits = held;
-    r->count = count;
-    r->words = words;
+    unsigned left = (unsigned)(end - from);
+    uint64_t low = eight(b, end / 8 - 8), high = eight(b, end / 8 - 16);
+    r->high = left > 64 ? high & (((uint64_t)1 << (left - 64)) - 1) : 0;
+    r->low = left >= 64 ? low : low & (((uint64_t)1 << left) - 1);
+    r->count = left;
     return frames;
 }
 

@@ -81,6 +81,8 @@ def deliveries():
     yield named("the same, seven bytes at a time", b"N", "new")
     for k in range(0, len(stream), 7):
         yield named("from byte %d" % k, records.receiving(stream[k : k + 7], 320), "receive 0 ")
+    yield named("a block A by chance right before a frame", b"N", "new")
+    yield named("17 bytes", records.receiving(bytes.fromhex(worked.CHANCE), 320), "receive 0 1 " + worked.BEHIND)
     yield named("the largest delivery", b"N", "new")
     yield named("512 bytes of clean air", records.receiving((zeros * 40)[:512], 320), "receive 0 39 ")
     yield named("a frame but for its last byte", b"N", "new")
@@ -101,7 +103,7 @@ def damaged():
     for count, bits, answer, frames, name in worked.RECEIVERS:
         yield named(name, records.pending(count, bits), "set")
         yield named("a frame to it", frame, "receive %d %d " % (answer, frames))
-    yield named("26 bits pending, once more", records.pending(26, 0), "set")
+    yield named("104 bits pending, once more", records.pending(104, 0), "set")
     yield named("513 bytes and output of 319", records.receiving(bytes(513), 319), "receive 28 0 ")
     for place, answer, name in worked.PLACES:
         yield named("a new beginning", b"N", "new")

@@ -51,7 +51,7 @@ def checking(data):
 
 
 def pending(count, bits):
-    return b"S" + bytes((count,)) + bits.to_bytes(4, "big")
+    return b"S" + bytes((count,)) + bits.to_bytes(16, "big")
 
 
 def placing(i, held, level, version, total, number):
@@ -71,7 +71,7 @@ def naming(name):
     return b"#" + bytes((len(name),)) + name.encode()
 
 
-HEADS = {b"#": 2, b"P": 3, b"W": 133, b"A": 7, b"R": 5, b"O": 3, b"F": 3, b"C": 5, b"N": 1, b"K": 3, b"S": 6, b"H": 7, b"T": 125, b"J": 5}
+HEADS = {b"#": 2, b"P": 3, b"W": 133, b"A": 7, b"R": 5, b"O": 3, b"F": 3, b"C": 5, b"N": 1, b"K": 3, b"S": 18, b"H": 7, b"T": 125, b"J": 5}
 
 
 def number(b, i):
@@ -173,7 +173,7 @@ class Program:
         if letter == b"K":
             return ["check %04X" % packet_check(record[3:])]
         if letter == b"S":
-            self.receiver.put(record[1], int.from_bytes(record[2:6], "big"))
+            self.receiver.put(record[1], int.from_bytes(record[2:18], "big"))
             return ["set"]
         if letter == b"H":
             return self.placed(*record[1:])
@@ -229,7 +229,7 @@ def said_of(record):
     if letter == b"K":
         return "check " + hexed(record[3:])
     if letter == b"S":
-        return "a receiver with %d bits pending of %s" % (record[1], hexed(record[2:6]))
+        return "a receiver with %d bits pending of %s" % (record[1], hexed(record[2:18]))
     if letter == b"H":
         return "place %d: held %d, level %d, version %d, total %d, number %d marked" % tuple(record[1:])
     return ("release" if letter == b"F" else "copy into %d bytes" % number(record, 3)) + " level %d, version %d" % (record[1], record[2])

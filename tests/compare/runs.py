@@ -10,7 +10,7 @@ def deliveries(rng):
     data = streams.stream(rng.randrange(1 << 30))[1][:3000]
     while data:
         if rng.randrange(12) == 0:
-            yield pending(rng.choice((0, 1, 25, 26, 27, 255)), rng.getrandbits(32))
+            yield pending(rng.choice((0, 1, 26, 63, 64, 65, 102, 103, 104, 127, 128, 255)), rng.getrandbits(128))
         size = rng.choice((0, 1, 2, 13, 26, 100, 511, 512, 512, 513, 600, rng.randrange(513)))
         room = rng.choice((320, 320, 320, 321, 400, 319, 0))
         yield receiving(data[:size], room)

@@ -104,13 +104,18 @@ STREAM_FRAMES = "2DE8066FA08C6EB0 18852C9B22F59F60 A15DC14B72981540 7CFBD48A2460
 # The frame of eight zero bytes on air.
 ZEROS = "00003F000019800005A00001B4"
 
-# A receiver's record: how many bits are pending, and 32 bits of which so many count; the answer and the frames of the frame above.
+# A receiver's record: how many bits are pending, and 128 bits of which so many, the lowest, count; the answer and the frames of the frame above.
+ONES = (1 << 128) - 1
 RECEIVERS = (
-    (26, 0, 28, 0, "26 bits pending"),
-    (255, 0xFFFFFFFF, 28, 0, "255 bits pending"),
-    (0, 0xFFFFFFFF, 0, 1, "no bit pending, and others that mean nothing"),
-    (25, 0xFE000000, 0, 1, "25 zero bits pending, and others that mean nothing"),
+    (104, 0, 28, 0, "104 bits pending"),
+    (255, ONES, 28, 0, "255 bits pending"),
+    (0, ONES, 0, 1, "no bit pending, and others that mean nothing"),
+    (103, ONES - (1 << 103) + 1, 0, 1, "103 zero bits pending, and others that mean nothing"),
 )
+
+# 26 bits that pass as a block A, right behind them a true frame, and six bits: paper 01's receiver locked on the 26 and lost the frame.
+CHANCE = "1234 1A80 48C2 C456 7ED6 26AD FBCD EFF6 AD"
+BEHIND = "0123456789ABCDEF"
 
 # A place of the collector: held, level, version, total, a number marked; the answer of an offer of seven bytes.
 PLACES = (

@@ -1,33 +1,31 @@
-"""The receiver, a bit at a time: it hunts for a block with offset A, then expects B, C, D and A again. No bit is mended."""
+"""The receiver, from paper 02's K7: a frame is any 104 bits whose four blocks all pass; the earliest start is taken, the next search starts behind
+it, and a start that fails moves on by one bit. Bits that are no frame yet stay pending, at most 103."""
 from .checks import block
+
+LEAST = 103
+
+
+def is_frame(bits, at):
+    """Whether four blocks with offsets A, B, C and D stand there."""
+    for letter in range(4):
+        word = int(bits[at + 26 * letter : at + 26 * letter + 26], 2)
+        if word != block(word >> 10, letter):
+            return False
+    return True
+
+
+def information(bits, at):
+    return b"".join(int(bits[at + 26 * k : at + 26 * k + 16], 2).to_bytes(2, "big") for k in range(4))
 
 
 class Receiver:
     def __init__(self):
-        self.held, self.count = 0, 0  # the latest 26 bits, and how many came since hunting began or since the last block
-        self.letter, self.words = None, b""  # the letter expected, none while hunting; the frame begun
-        self.damaged = False  # a record that no delivery leaves
-
-    def bit(self, bit):
-        """Takes a bit; gives a frame when its D passes, else nothing."""
-        self.held, self.count = (self.held << 1 | bit) & (1 << 26) - 1, self.count + 1
-        if self.count < 26:
-            return None
-        if self.held != block(self.held >> 10, self.letter or 0):
-            if self.letter is not None:  # the frame is dropped, and hunting begins at the next bit
-                self.letter, self.words, self.count = None, b"", 0
-            return None
-        self.words += (self.held >> 10).to_bytes(2, "big")
-        self.letter, self.count = ((self.letter or 0) + 1) % 4, 0
-        if self.letter != 0:
-            return None
-        frame, self.words = self.words, b""
-        return frame
+        self.pending, self.damaged = "", False
 
     def put(self, count, bits):
-        """A record as it is given: hunting, so many bits pending. Bits above the count mean nothing."""
-        self.__init__()
-        self.held, self.count, self.damaged = bits & (1 << count) - 1, count, count > 25
+        """A record as it is given: its low bits, as many as it counts, are pending; others mean nothing."""
+        self.damaged = count > LEAST
+        self.pending = format(bits & (1 << count) - 1, "0%db" % count) if count else ""
 
     def receive(self, delivery, room):
         """The answer and the frames of a delivery, in order. A 41st needs 4264 bits; 4096 come, and 103 at most were there."""
@@ -37,5 +35,13 @@ class Receiver:
             return 11, []
         if room < 320:
             return 10, []
-        bits = (byte >> i & 1 for byte in delivery for i in range(7, -1, -1))
-        return 0, [frame for frame in map(self.bit, bits) if frame is not None]
+        bits = self.pending + "".join(format(byte, "08b") for byte in delivery)
+        frames, at = [], 0
+        while len(bits) - at > LEAST:
+            if is_frame(bits, at):
+                frames.append(information(bits, at))
+                at += 104
+            else:
+                at += 1
+        self.pending = bits[at:]
+        return 0, frames

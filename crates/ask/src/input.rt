@@ -36,6 +36,13 @@ pub(crate) fn four(b: &[u8], i: usize) -> u32
     two(b, i) as u32 * 65536 + two(b, i + 2) as u32
 }
 
+// A number of eight bytes.
+pub(crate) fn eight(b: &[u8], i: usize) -> u64
+    requires { ⌜ i ≤ 800 ⌝ }
+{
+    four(b, i) as u64 * 0x1_0000_0000 + four(b, i + 4) as u64
+}
+
 // Copies bytes until the output is full; zeros where there are no more.
 pub(crate) fn fill(b: &[u8], out: &mut [u8])
     ensures { λ _. ⌜ length (now (out .exit)) ≡ length (now (out .entry)) ⌝ }

@@ -1,14 +1,13 @@
 // What is kept from record to record: a receiver and a collector.
 // R, the length of the output lent (two bytes, at most 400), the length of a delivery (two bytes), the delivery.
 // O, the length of a frame (two bytes), the frame. F, level, version. C, level, version, the length of the memory lent (two bytes, at most
-// 300). N alone. S, a count, 32 bits: a hunting receiver with so many of them pending, and words that mean nothing. H, which of the four
+// 300). N alone. S, a count, 128 bits: a receiver with so many of the lowest of them pending. H, which of the four
 // places (modulo 4), whether it is held (1), level, version, total, a number: that place with this number marked (none from 63 on).
 use crate::input;
 use crate::say;
 use collector::Collector;
 use collector::Place;
 use collector::Total;
-use receiver::Phase;
 use receiver::Receiver;
 
 pub(crate) struct Kept {
@@ -62,10 +61,9 @@ fn copied(c: Collector, level: u8, version: u8, n: usize, memory: &mut [u8]) {
 
 fn pending(b: &[u8]) -> Receiver {
     Receiver {
-        phase: Phase::Hunting,
-        bits: input::four(b, 2),
+        high: input::eight(b, 2),
+        low: input::eight(b, 10),
         count: input::byte(b, 1) as u32,
-        words: 0xFFFF_FFFF_FFFF_FFFF,
     }
 }
 

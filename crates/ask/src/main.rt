@@ -38,7 +38,7 @@ fn length_of(b: &[u8]) -> usize
             input::two(b, 121) as usize + input::two(b, 123) as usize,
         ),
         b'J' => input::whole(b, 5, input::two(b, 3) as usize),
-        b'S' => input::whole(b, 6, 0),
+        b'S' => input::whole(b, 18, 0),
         b'H' => input::whole(b, 7, 0),
         b'#' => input::whole(b, 2, input::byte(b, 1) as usize),
         _ => 0,

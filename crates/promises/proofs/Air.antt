@@ -9,11 +9,9 @@ use lib.Seq.{take-at}
 use lib.Dec.{eqb}
 use borrow.Author.Tests.{eq-eqb}
 use Rattle.laws.proofs.Bits.{Under}
-use Rattle.block.specs.declared.Letter.the-variants.{A}
 use Rattle.frame.specs.OnAir.{streamOf}
 use Rattle.air.specs.OnAir.{framesFor, framesOf, answerOf, airedOf, airedInto}
 use Rattle.air.proofs.Answers.{length-frames, length-stream}
-use Rattle.receiver.specs.declared.Phase.the-variants.{Locked}
 use Rattle.receiver.specs.Receive.{freshReceiver}
 use Rattle.receiver.specs.Calls.{Call, AreFrames, allTaken, allFrames, lastReceiver, delivered, inBounds}
 use Rattle.receiver.proofs.CleanAir.{clean-air}
@@ -39,19 +37,19 @@ module _ (p : List ℕ) (l v : ℕ) (out : List ℕ) (e : answerOf p l v out ≡
 back : (fs : List (List ℕ)) (calls : List Call) → AreFrames fs → 1 ≤ length fs → inBounds calls ≡ true → delivered calls ≡ streamOf fs
     → (allTaken freshReceiver calls ≡ true)
     × (allFrames freshReceiver calls ≡ fs)
-    × (lastReceiver freshReceiver calls ≡ record { phase = Locked A; bits = 0; count = 0; words = 0 })
+    × (lastReceiver freshReceiver calls ≡ freshReceiver)
 unfolding delivered
 back [] calls a h b d = absurd (omega arith)
 back (f ∷ fs) [] a h b d = let z : 0 ≡ length (streamOf (f ∷ fs)) = ap length d in absurd (omega (arith, length-stream (f ∷ fs)))
-back (f ∷ fs) (c ∷ cs) a h b d = clean-air f fs c cs a b d
+back (f ∷ fs) (c ∷ cs) a h b d = clean-air (f ∷ fs) c cs a b d
 
 -- Whatever packet, level and version the on-air writer takes: the bytes that it writes, given to a fresh receiver in deliveries of at most 512 bytes
--- cut anywhere, come back as exactly that packet's frames, in order; no delivery is refused, and the receiver ends locked, expecting A, with nothing pending.
+-- cut anywhere, come back as exactly that packet's frames, in order; no delivery is refused, and the receiver ends with nothing pending.
 pub air-comes-back : (packet : List ℕ) (level version : ℕ) (out : List ℕ) → Under 256 packet → airedOf packet level version out .answer ≡ 0
     → (calls : List Call) → inBounds calls ≡ true → delivered calls ≡ take (13 * airedOf packet level version out .frames) (airedInto packet level version out)
     → (allTaken freshReceiver calls ≡ true)
     × (allFrames freshReceiver calls ≡ framesOf packet level version)
-    × (lastReceiver freshReceiver calls ≡ record { phase = Locked A; bits = 0; count = 0; words = 0 })
+    × (lastReceiver freshReceiver calls ≡ freshReceiver)
 unfolding airedOf
 air-comes-back p l v out u e calls b d =
     let t = taken p l v out e in

@@ -26,7 +26,7 @@ module _ (r : Receiver) (d out : List ℕ) where
   unfolding receiveCases
   four = refl
 
-  -- 28, 11, 10 and 19 come exactly when their case holds and none before it does: over 25 bits pending; over 512 bytes; an output under 320; a 41st frame.
+  -- 28, 11, 10 and 19 come exactly when their case holds and none before it does: over 103 bits pending; over 512 bytes; an output under 320; a 41st frame.
   pub answer-exact : (k : ℕ) → k < 4
       → (receivedOf r d out .answer ≡ caseAt (receiveCases r d out) k .1) ↔ ((caseAt (receiveCases r d out) k .0 ≡ true) × (none (take k (receiveCases r d out)) ≡ true))
   unfolding receiveAnswer
@@ -49,8 +49,8 @@ module _ (r : Receiver) (d out : List ℕ) where
   no-41st a =
       let c = answer-exact 3 (omega arith) .0 a in
       let n = c .1 in
-      let n1 = not-true (ltb 25 (r .count)) (and-left (not (ltb 25 (r .count))) (not (ltb 512 (length d)) && (not (ltb (length out) 320) && true)) n) in
-      let n2 = and-right (not (ltb 25 (r .count))) (not (ltb 512 (length d)) && (not (ltb (length out) 320) && true)) n in
+      let n1 = not-true (ltb 103 (r .count)) (and-left (not (ltb 103 (r .count))) (not (ltb 512 (length d)) && (not (ltb (length out) 320) && true)) n) in
+      let n2 = and-right (not (ltb 103 (r .count))) (not (ltb 512 (length d)) && (not (ltb (length out) 320) && true)) n in
       let n3 = not-true (ltb 512 (length d)) (and-left (not (ltb 512 (length d))) (not (ltb (length out) 320) && true) n2) in
       let m : 40 < length (hearing r d .frames) = ltb-true 40 (length (hearing r d .frames)) (c .0) in
-      omega (arith, at-most-forty r d (ltb-false 25 (r .count) n1) (ltb-false 512 (length d) n3))
+      omega (arith, at-most-forty r d (ltb-false 103 (r .count) n1) (ltb-false 512 (length d) n3))

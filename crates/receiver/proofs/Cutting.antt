@@ -2,94 +2,82 @@
 use mathlib.Core.Path.{_≡_, refl, sym, ap, ap₂, _∙_, subst}
 use mathlib.Core.Bool.{Bool, true, false, _&&_}
 use mathlib.Core.List.{List, [], _∷_, _++_, append-assoc, append-nil}
-use Prim.Native.Nat.{ℕ, _≤_}
+use Prim.Native.Nat.{ℕ, _+_, _*_, _^_, _≤_, _<_}
 use native.Mathlib.Omega.{arith}
 use borrow.Author.Tests.{eq-eqb, eqb-true, leb-true}
-use lib.ListN.{length, take, drop, length-append}
+use lib.ListN.{length, take, drop, length-append, length-drop}
 use lib.Seq.{take-all, take-at, drop-at, take-append-le, drop-append-le}
+use lib.Pow.{split}
 use lib.Dec.{eqb, leb}
-use Rattle.laws.specs.Bits.{at, bitsOf, bits}
-use Rattle.laws.proofs.Bits.{Under, at-left, bits-at}
+use Rattle.laws.specs.Bits.{at, bitsOf, bits, bytes}
+use Rattle.laws.proofs.Bits.{Under, at-left, at-below, bits-at}
 use Rattle.laws.proofs.Cases.{if-yes, if-no, and-left, and-right}
 use Rattle.block.specs.Block.{isValid}
-use Rattle.block.specs.declared.Letter.the-variants.{A, B}
+use Rattle.block.specs.declared.Letter.the-variants.{A, B, C, D}
 use Rattle.frame.proofs.OnAir.{bits-append}
-use Rattle.receiver.specs.declared.Phase.{Phase}
-use Rattle.receiver.specs.declared.Phase.the-variants.{Hunting, Locked}
 use Rattle.receiver.specs.declared.Receiver.{Receiver}
 use Rattle.receiver.specs.declared.Received.{Received}
-use Rattle.receiver.specs.Rule.{Heard, next, complete, kept, onto, rule, heard}
-use Rattle.receiver.specs.Receive.{begunOf, heldOf, endOf, hearing, joined, receiveAnswer, receivedOf, written, receivedInto}
+use Rattle.receiver.specs.Rule.{Heard, isFrame, information, onto, heard}
+use Rattle.receiver.specs.Receive.{pendingOf, recordOf, endOf, hearing, joined, receiveAnswer, receivedOf, written, receivedInto}
 use Rattle.receiver.specs.Calls.{framesIn, Call, received, handedOut, allTaken, allFrames, lastReceiver, delivered, inBounds}
-use Rattle.receiver.proofs.Rule.{run, heard-found, heard-on, heard-pass, heard-fail}
-use Rattle.receiver.proofs.Sound.{Eights, hearing-sound, at-most-forty}
+use Rattle.receiver.proofs.Rule.{over, heard-frame, heard-on}
+use Rattle.receiver.proofs.Sound.{Eights, hearing-sound, hearing-bits}
 use Rattle.receiver.proofs.Whole.{due-none}
 
 -- ---- the rule, on bits in two parts
-Cut : Phase → List ℕ → List ℕ → Heard → Type 0
-Cut p g l h = (m : List ℕ) → heard p g (l ++ m) ≡ onto (h .frames) (heard (h .phase) (h .begun) (h .held ++ m))
-
--- the first block of l ++ m is that of l
-module _ (l m : List ℕ) (k : 26 ≤ length l) where
-  longer : 26 ≤ length (l ++ m)
+-- what is behind the first 104 bits has no part in whether they are a frame, and in which
+module _ (l m : List ℕ) (k : 104 ≤ length l) where
+  longer : 104 ≤ length (l ++ m)
   longer = omega (arith, length-append l m)
 
-  same-block : at (l ++ m) 0 26 ≡ at l 0 26
-  same-block = at-left l m 0 26 k
+  pub same-frame : isFrame (l ++ m) ≡ isFrame l
+  unfolding isFrame
+  same-frame =
+      ap₂ _&&_ (ap (λ (x : ℕ). isValid x A) (at-left l m 0 26 (omega arith)))
+      (ap₂ _&&_ (ap (λ (x : ℕ). isValid x B) (at-left l m 26 26 (omega arith)))
+      (ap₂ _&&_ (ap (λ (x : ℕ). isValid x C) (at-left l m 52 26 (omega arith))) (ap (λ (x : ℕ). isValid x D) (at-left l m 78 26 (omega arith)))))
 
-  same-word : take 16 (l ++ m) ≡ take 16 l
-  same-word = take-append-le 16 l m (omega arith)
+  word : (p : ℕ) → p + 16 ≤ 104 → take 16 (drop p (l ++ m)) ≡ take 16 (drop p l)
+  word p h =
+      ap (take 16) (drop-append-le p l m (omega arith)) ∙ take-append-le 16 (drop p l) m (omega (arith, length-drop p l))
 
-  same-rest : drop 26 (l ++ m) ≡ drop 26 l ++ m
-  same-rest = drop-append-le 26 l m k
+  pub same-information : information (l ++ m) ≡ information l
+  unfolding information
+  same-information =
+      ap bytes
+      (ap₂ (λ (a b : List ℕ). a ++ b) (word 0 (omega arith))
+      (ap₂ (λ (a b : List ℕ). a ++ b) (word 26 (omega arith)) (ap₂ (λ (a b : List ℕ). a ++ b) (word 52 (omega arith)) (word 78 (omega arith)))))
 
-cut-rule : (n : ℕ) (p : Phase) (g l : List ℕ) → length l ≤ n → Cut p g l (rule n p g l)
-unfolding Cut
-cut-rule =
-    run Cut
-    (λ p g l k m. refl)
-    (λ g l h k v ih m.
-    heard-found g (l ++ m) (longer l m k) (ap (λ (b : ℕ). isValid b A) (same-block l m k) ∙ v)
-    ∙ ap₂ (heard (Locked B)) (same-word l m k) (same-rest l m k) ∙ ih m)
-    (λ g l h k v ih m.
-    heard-on g (l ++ m) (longer l m k) (ap (λ (b : ℕ). isValid b A) (same-block l m k) ∙ v)
-    ∙ ap (heard Hunting g) (drop-append-le 1 l m (omega arith)) ∙ ih m)
-    (λ x g l h k v ih m.
-    heard-pass g (l ++ m) (longer l m k) x (ap (λ (b : ℕ). isValid b x) (same-block l m k) ∙ v)
-    ∙ ap₂ (λ (t u : List ℕ). onto (complete x (g ++ t)) (heard (Locked (next x)) (kept x (g ++ t)) u)) (same-word l m k) (same-rest l m k)
-    ∙ ap (onto (complete x (g ++ take 16 l))) (ih m)
-    ∙ ap (λ (fs : List (List ℕ)). record { frames = fs; phase = heard (h .phase) (h .begun) (h .held ++ m) .phase; begun = heard (h .phase) (h .begun) (h .held ++ m) .begun; held = heard (h .phase) (h .begun) (h .held ++ m) .held })
-    (sym (append-assoc (complete x (g ++ take 16 l)) (h .frames) (heard (h .phase) (h .begun) (h .held ++ m) .frames))))
-    (λ x g l h k v ih m.
-    heard-fail g (l ++ m) (longer l m k) x (ap (λ (b : ℕ). isValid b x) (same-block l m k) ∙ v)
-    ∙ ap (heard Hunting []) (same-rest l m k) ∙ ih m)
+Cut : List ℕ → Heard → Type 0
+Cut l h = (m : List ℕ) → heard (l ++ m) ≡ onto (h .frames) (heard (h .pending ++ m))
 
 -- bits in two parts: what the first part leaves is where the second begins
-pub heard-cut : (p : Phase) (g l m : List ℕ) → heard p g (l ++ m) ≡ onto (heard p g l .frames) (heard (heard p g l .phase) (heard p g l .begun) (heard p g l .held ++ m))
-unfolding Cut heard
-heard-cut p g l m = cut-rule (length l) p g l (omega arith) m
+pub heard-cut : (l m : List ℕ) → heard (l ++ m) ≡ onto (heard l .frames) (heard (heard l .pending ++ m))
+unfolding Cut
+heard-cut =
+    over Cut
+    (λ l k m. refl)
+    (λ l h k v ih m.
+    heard-frame (l ++ m) (longer l m k) (same-frame l m k ∙ v)
+    ∙ ap₂ (λ (f r : List ℕ). onto (f ∷ []) (heard r)) (same-information l m k) (drop-append-le 104 l m k)
+    ∙ ap (onto (information l ∷ [])) (ih m))
+    (λ l h k v ih m.
+    heard-on (l ++ m) (longer l m k) (same-frame l m k ∙ v)
+    ∙ ap heard (drop-append-le 1 l m (omega arith)) ∙ ih m)
 
 -- ---- a record stands for what the rule left
-stands : (l : List ℕ) → Under 2 l → bitsOf (length l) (at l 0 (length l)) ≡ l
-stands l u = bits-at l 0 (length l) u (omega arith) ∙ take-all (length l) l (omega arith)
+stands : (l : List ℕ) → Under 2 l → pendingOf (recordOf l) ≡ l
+stands l u = ap (bitsOf (length l)) (split (at l 0 (length l)) 64) ∙ bits-at l 0 (length l) u (omega arith) ∙ take-all (length l) l (omega arith)
 
 module _ (r : Receiver) (d : List ℕ) where
-  begun-again : begunOf (endOf (hearing r d)) ≡ hearing r d .begun
-  begun-again =
-      let s = hearing-sound r d in
-      ap (λ (n : ℕ). bitsOf n (at (hearing r d .begun) 0 (length (hearing r d .begun)))) (sym (s .size)) ∙ stands (hearing r d .begun) (s .begun)
-
-  held-again : heldOf (endOf (hearing r d)) ≡ hearing r d .held
-  held-again = stands (hearing r d .held) (hearing-sound r d .held)
-
   -- the bits of two deliveries, heard at once or one after the other
   pub hearing-cut : (e : List ℕ) → hearing r (d ++ e) ≡ onto (hearing r d .frames) (hearing (endOf (hearing r d)) e)
-  unfolding hearing heard Cut
+  unfolding hearing
   hearing-cut e =
-      ap (λ (l : List ℕ). heard (r .phase) (begunOf r) (heldOf r ++ l)) (bits-append d e)
-      ∙ ap (heard (r .phase) (begunOf r)) (sym (append-assoc (heldOf r) (bits d) (bits e)))
-      ∙ cut-rule (length (heldOf r ++ bits d)) (r .phase) (begunOf r) (heldOf r ++ bits d) (omega arith) (bits e)
-      ∙ ap₂ (λ (g l : List ℕ). onto (hearing r d .frames) (heard (hearing r d .phase) g (l ++ bits e))) (sym begun-again) (sym held-again)
+      ap (λ (l : List ℕ). heard (pendingOf r ++ l)) (bits-append d e)
+      ∙ ap heard (sym (append-assoc (pendingOf r) (bits d) (bits e)))
+      ∙ heard-cut (pendingOf r ++ bits d) (bits e)
+      ∙ ap (λ (l : List ℕ). onto (hearing r d .frames) (heard (l ++ bits e))) (sym (stands (hearing r d .pending) (hearing-bits r d)))
 
 -- ---- a call that is taken
 frames-in : (fs : List (List ℕ)) (l : List ℕ) → Eights fs → framesIn (length fs) (joined fs ++ l) ≡ fs
@@ -120,6 +108,14 @@ module _ (r : Receiver) (c : Call) (a : received r c .answer ≡ 0) where
   -- the receiver handed back is the one that the rule leaves
   pub receiver-is-rule : received r c .receiver ≡ endOf (hearing r (c .delivery))
   receiver-is-rule = ap (λ (x : Received). x .receiver) received-is
+
+  -- the record handed back has at most 103 bits pending, and zeros above them
+  pub nothing-above : (received r c .receiver .high * 2 ^ 64 + received r c .receiver .low < 2 ^ received r c .receiver .count) × (received r c .receiver .count ≤ 103)
+  nothing-above =
+      let d = c .delivery in
+      let l = hearing r d .pending in
+      subst (λ (x : Receiver). (x .high * 2 ^ 64 + x .low < 2 ^ x .count) × (x .count ≤ 103)) (sym receiver-is-rule)
+      (subst (λ (n : ℕ). n < 2 ^ length l) (sym (split (at l 0 (length l)) 64)) (at-below l 0 (length l) (hearing-bits r d)), omega (arith, hearing-sound r d .short))
 
   -- Where a delivery is taken, the count in the answer is the number of frames that the rule yields, and the output holds exactly those frames.
   pub count-is-rule : (received r c .frames ≡ length (hearing r (c .delivery) .frames)) × (handedOut r c ≡ hearing r (c .delivery) .frames)
@@ -172,21 +168,21 @@ any-two-cuts r b c bs cs e t u =
     let y = cutting-any r c cs u in
     (x .0 ∙ ap (λ (l : List ℕ). hearing r l .frames) e ∙ sym (y .0), x .1 ∙ ap (λ (l : List ℕ). endOf (hearing r l)) e ∙ sym (y .1))
 
--- A receiver with at most 25 bits pending takes every delivery of at most 512 bytes into an output of at least 320: no 41st frame comes.
-pub takes : (r : Receiver) (c : Call) → r .count ≤ 25 → length (c .delivery) ≤ 512 → 320 ≤ length (c .output) → received r c .answer ≡ 0
+-- A receiver with at most 103 bits pending takes every delivery of at most 512 bytes into an output of at least 320: no 41st frame comes.
+pub takes : (r : Receiver) (c : Call) → r .count ≤ 103 → length (c .delivery) ≤ 512 → 320 ≤ length (c .output) → received r c .answer ≡ 0
 takes r c h k l =
     let d = c .delivery in
     let out = c .output in
-    answer-is r d out ∙ due-none r d out h k l (at-most-forty r d h k)
+    answer-is r d out ∙ due-none r d out h k l
 
 -- And so for deliveries one after the other.
-pub takes-all : (r : Receiver) (cs : List Call) → r .count ≤ 25 → inBounds cs ≡ true → allTaken r cs ≡ true
+pub takes-all : (r : Receiver) (cs : List Call) → r .count ≤ 103 → inBounds cs ≡ true → allTaken r cs ≡ true
 unfolding allTaken inBounds
 takes-all r [] h b = refl
 takes-all r (c ∷ cs) h b =
     let s = leb (length (c .delivery)) 512 && leb 320 (length (c .output)) in
     let i = and-left s (inBounds cs) b in
     let a = takes r c h (leb-true (length (c .delivery)) 512 (and-left (leb (length (c .delivery)) 512) (leb 320 (length (c .output))) i)) (leb-true 320 (length (c .output)) (and-right (leb (length (c .delivery)) 512) (leb 320 (length (c .output))) i)) in
-    let n : received r c .receiver .count ≤ 25 =
-    subst (λ (x : Receiver). x .count ≤ 25) (sym (receiver-is-rule r c a)) (omega (arith, hearing-sound r (c .delivery) .short)) in
+    let n : received r c .receiver .count ≤ 103 =
+    subst (λ (x : Receiver). x .count ≤ 103) (sym (receiver-is-rule r c a)) (omega (arith, hearing-sound r (c .delivery) .short)) in
     ap₂ _&&_ (eq-eqb (received r c .answer) 0 a) (takes-all (received r c .receiver) cs n (and-right s (inBounds cs) b))

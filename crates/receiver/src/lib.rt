@@ -1,34 +1,28 @@
 // The receiver: deliveries of air bytes in, frames out.
-mod delivery;
-mod output;
-mod passing;
-mod readers;
+mod places;
+mod searching;
+mod store;
+mod window;
 
-use block::Letter;
-use readers::Read;
+use searching::Read;
 ghost use mathlib.Core.Path.{_≡_};
-ghost use Prim.Native.Nat.{_≤_};
-ghost use lib.ListN.{length};
-ghost use lib.Seq.{sets};
-ghost use Rattle.receiver.specs.Receive.{freshReceiver, hearing, joined, receivedOf, receivedInto};
-ghost use Rattle.receiver.specs.Readers.{readOf};
+ghost use Prim.Native.Nat.{_+_, _*_, _%_, _^_, _≤_, _<_};
+ghost use mathlib.Core.List.{_++_};
+ghost use lib.ListN.{length, take};
+ghost use Rattle.laws.specs.Bits.{bits, bitsOf};
+ghost use Rattle.receiver.specs.Search.{ahead};
+ghost use Rattle.receiver.specs.Receive.{freshReceiver, recordOf, receivedOf, receivedInto};
 
-// Hunting for a first block, or locked and expecting a block of this letter.
-pub enum Phase {
-    Hunting,
-    Locked(Letter),
-}
-
-// A receiver between deliveries: the latest `count` of `bits` are held of the block at hand,
-// and the low bits of `words` are the information of the frame begun, sixteen for each letter passed.
+// A receiver between deliveries: the low `count` bits of `high` and `low` are pending. Nothing above them means anything.
+#[repr(C)]
 pub struct Receiver {
-    pub phase: Phase,
-    pub bits: u32,
+    pub high: u64,
+    pub low: u64,
     pub count: u32,
-    pub words: u64,
 }
 
 // The answer to a delivery, how many frames were written, and the receiver for the next one.
+#[repr(C)]
 pub struct Received {
     pub answer: u8,
     pub frames: usize,
@@ -40,10 +34,9 @@ pub fn fresh() -> Receiver
     ensures { λ r. ⌜ r ≡ freshReceiver ⌝ }
 {
     Receiver {
-        phase: Phase::Hunting,
-        bits: 0,
+        high: 0,
+        low: 0,
         count: 0,
-        words: 0,
     }
 }
 
@@ -57,29 +50,69 @@ fn refused(answer: u8, receiver: Receiver) -> Received
     }
 }
 
-// Reads a delivery from where the receiver stands.
-fn read(receiver: Receiver, delivery: &[u8], room: &mut [u8]) -> Read
-    requires { ⌜ (receiver .count ≤ 25) × (length (now delivery) ≤ 512) × (length (now room) ≡ 320) ⌝ }
-    ensures state { λ r. ⌜ r ≡ readOf (hearing receiver (now (delivery .entry))) 0 ⌝ }
-    ensures room { λ _. ⌜ now (room .exit) ≡ sets (now (room .entry)) 0 (joined (hearing receiver (now (delivery .entry)) .frames)) ⌝ }
+// Room for a record's 128 bits, a delivery, and what is read past its end.
+fn empty() -> [u8; 536]
+    ensures { λ r. ⌜ length r ≡ 536 ⌝ }
 {
-    let held = receiver.bits % (1u32 << receiver.count);
-    let phase = receiver.phase;
-    match phase {
-        Phase::Hunting => readers::hunting(delivery, room, held, receiver.count, 0, 0),
-        Phase::Locked(letter) => {
-            let words = readers::begun(letter, receiver.words);
-            readers::locked(delivery, room, letter, words, held, receiver.count, 0, 0)
-        }
+    [0; 536]
+}
+
+// The record's bits, and right behind them the delivery.
+fn fill(buffer: &mut [u8], receiver: Receiver, delivery: &[u8])
+    requires { ⌜ (length (now buffer) ≡ 536) × (length (now delivery) ≤ 512) ⌝ }
+    ensures { λ _. ⌜ take (128 + length (now (delivery .entry)) * 8) (bits (now (buffer .exit))) ≡ bitsOf 128 (receiver .high * 2 ^ 64 + receiver .low) ++ bits (now (delivery .entry)) ⌝ }
+{
+    store::store(buffer, 0, receiver.high);
+    store::store(buffer, 8, receiver.low);
+    bytes::copy(delivery, &mut buffer[16..]);
+}
+
+// The record of the bits from a place up to the end of some bytes.
+fn rest(b: &[u8], bytes: usize, from: usize) -> Receiver
+    requires { ⌜ (16 ≤ bytes) × (bytes ≤ length (now b)) × (length (now b) ≤ 536) × (from ≤ bytes * 8) × (bytes * 8 < from + 104) ⌝ }
+    ensures { λ r. ⌜ r ≡ recordOf (ahead (now (b .entry)) (bytes * 8) from) ⌝ }
+{
+    let n = (bytes * 8 - from) as u32;
+    let low = window::eight(b, bytes - 8);
+    if n < 64 {
+        return Receiver {
+            high: 0,
+            low: low % (1u64 << n),
+            count: n,
+        };
+    }
+    let high = window::eight(b, bytes - 16);
+    Receiver {
+        high: high % (1u64 << (n - 64)),
+        low,
+        count: n,
     }
 }
 
-// Takes a delivery. Frames go to the output only once it is known that none of them is refused.
+// Reads a delivery from where the receiver stands.
+fn hear(receiver: Receiver, delivery: &[u8], out: &mut [u8]) -> Received
+    requires { ⌜ (receiver .count ≤ 103) × (length (now delivery) ≤ 512) × (320 ≤ length (now out)) ⌝ }
+    ensures answer { λ r. ⌜ r ≡ receivedOf receiver (now (delivery .entry)) (now (out .entry)) ⌝ }
+    ensures out { λ _. ⌜ now (out .exit) ≡ receivedInto receiver (now (delivery .entry)) (now (out .entry)) ⌝ }
+{
+    let mut buffer = empty();
+    fill(&mut buffer, receiver, delivery);
+    let bytes = 16 + delivery.len();
+    let read = searching::search(&buffer, out, bytes * 8, 128 - receiver.count as usize);
+    let pending = rest(&buffer, bytes, read.from);
+    Received {
+        answer: 0,
+        frames: read.frames,
+        receiver: pending,
+    }
+}
+
+// Takes a delivery. Frames go straight to the output: with at most 103 bits pending and 512 bytes there are at most forty, so 19 never comes.
 pub fn receive(receiver: Receiver, delivery: &[u8], out: &mut [u8]) -> Received
     ensures answer { λ r. ⌜ r ≡ receivedOf receiver (now (delivery .entry)) (now (out .entry)) ⌝ }
     ensures out { λ _. ⌜ now (out .exit) ≡ receivedInto receiver (now (delivery .entry)) (now (out .entry)) ⌝ }
 {
-    if receiver.count > 25 {
+    if receiver.count > 103 {
         return refused(28, receiver);
     }
     if delivery.len() > 512 {
@@ -88,18 +121,9 @@ pub fn receive(receiver: Receiver, delivery: &[u8], out: &mut [u8]) -> Received
     if out.len() < 320 {
         return refused(10, receiver);
     }
-    let mut room = output::empty();
-    let heard = read(receiver, delivery, &mut room);
-    let frames = heard.frames;
-    if frames > 40 {
+    let got = hear(receiver, delivery, out);
+    if got.frames > 40 {
         return refused(19, receiver);
     }
-    let n = frames * 8;
-    bytes::copy(&room[0..n], out);
-    let next = heard.receiver;
-    Received {
-        answer: 0,
-        frames,
-        receiver: next,
-    }
+    got
 }
