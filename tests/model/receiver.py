@@ -28,7 +28,7 @@ class Receiver:
         self.pending = format(bits & (1 << count) - 1, "0%db" % count) if count else ""
 
     def receive(self, delivery, room):
-        """The answer and the frames of a delivery, in order. A 41st needs 4264 bits; 4096 come, and 103 at most were there."""
+        """The answer and the frames of a delivery, in order."""
         if self.damaged:
             return 28, []
         if len(delivery) > 512:

@@ -52,7 +52,7 @@ module _ (r : Receiver) (d out : List ℕ) where
 
   pub due-none : r .count ≤ 103 → length d ≤ 512 → 320 ≤ length out → receiveAnswer r d out ≡ 0
   unfolding receiveAnswer receiveCases
-  due-none h k l = pass 28 _ (le-ltb 103 (r .count) h) ∙ pass 11 _ (le-ltb 512 (length d) k) ∙ pass 10 _ (le-ltb (length out) 320 l) ∙ pass 19 _ (le-ltb 40 (length (hearing r d .frames)) (at-most-forty r d h k)) ∙ none-left
+  due-none h k l = pass 28 _ (le-ltb 103 (r .count) h) ∙ pass 11 _ (le-ltb 512 (length d) k) ∙ pass 10 _ (le-ltb (length out) 320 l) ∙ none-left
 
   -- a refusal returns the record given and writes nothing
   pub refused : (k : ℕ) (x : Received) → receiveAnswer r d out ≡ k → eqb k 0 ≡ false → x ≡ record { answer = k; frames = 0; receiver = r }
@@ -95,11 +95,3 @@ module _ (r : Receiver) (d out : List ℕ) where
               ∙ sym (if-yes _ _ t),
           g ∙ ap (λ (y : Heard). sets out 0 (joined (y .frames))) w ∙ from-front (joined fs) out long ∙ sym (if-yes _ _ t),
         )
-
-  -- a delivery that is taken has no 41st frame, so the test for one never holds
-  pub no-more : r .count ≤ 103 → length d ≤ 512 → 320 ≤ length out → (x : Received) → x ≡ receivedOf r d out → 40 < x .frames → ⊥
-  unfolding receivedOf
-  no-more h k l x e m =
-      let t : eqb (receiveAnswer r d out) 0 ≡ true = ap (λ (a : ℕ). eqb a 0) (due-none h k l) in
-      let n : x .frames ≡ length (hearing r d .frames) = ap (λ (y : Received). y .frames) (e ∙ if-yes _ _ t) in
-      omega (arith, at-most-forty r d h k)

@@ -35,9 +35,9 @@ unfoldable pub joined : List (List ℕ) → List ℕ
 joined [] = []
 joined (f ∷ fs) = f ++ joined fs
 
--- the refusals in their order: 28, more than 103 bits pending; 11, a delivery of more than 512 bytes; 10, an output of fewer than 320; 19, a 41st frame
+-- the refusals in their order: 28, more than 103 bits pending; 11, a delivery of more than 512 bytes; 10, an output of fewer than 320
 unfoldable pub receiveCases : Receiver → List ℕ → List ℕ → List Case
-receiveCases r d out = (ltb 103 (r .count), 28) ∷ (ltb 512 (length d), 11) ∷ (ltb (length out) 320, 10) ∷ (ltb 40 (length (hearing r d .frames)), 19) ∷ []
+receiveCases r d out = (ltb 103 (r .count), 28) ∷ (ltb 512 (length d), 11) ∷ (ltb (length out) 320, 10) ∷ []
 
 unfoldable pub receiveAnswer : Receiver → List ℕ → List ℕ → ℕ
 receiveAnswer r d out = first (receiveCases r d out)

@@ -107,7 +107,7 @@ fn hear(receiver: Receiver, delivery: &[u8], out: &mut [u8]) -> Received
     }
 }
 
-// Takes a delivery. Frames go straight to the output: with at most 103 bits pending and 512 bytes there are at most forty, so 19 never comes.
+// Takes a delivery. Frames go straight to the output: with at most 103 bits pending and 512 bytes there are at most forty.
 pub fn receive(receiver: Receiver, delivery: &[u8], out: &mut [u8]) -> Received
     ensures answer { λ r. ⌜ r ≡ receivedOf receiver (now (delivery .entry)) (now (out .entry)) ⌝ }
     ensures out { λ _. ⌜ now (out .exit) ≡ receivedInto receiver (now (delivery .entry)) (now (out .entry)) ⌝ }
@@ -121,9 +121,5 @@ pub fn receive(receiver: Receiver, delivery: &[u8], out: &mut [u8]) -> Received
     if out.len() < 320 {
         return refused(10, receiver);
     }
-    let got = hear(receiver, delivery, out);
-    if got.frames > 40 {
-        return refused(19, receiver);
-    }
-    got
+    hear(receiver, delivery, out)
 }
