@@ -14,17 +14,17 @@ use Rattle.laws.proofs.Below.{at-each}
 use Rattle.laws.proofs.Xor.{xor-undo}
 use Rattle.laws.proofs.Remainder.{remainder-low, divides-shift}
 use Rattle.block.specs.declared.Letter.{Letter}
-use Rattle.block.specs.Block.{generator, syndrome, isValid}
-use Rattle.block.proofs.Validity.{syndrome-xor, valid-remainder}
+use Rattle.block.specs.Block.{generator, offsetOf, syndrome, carries, isValid}
+use Rattle.block.proofs.Validity.{syndrome-xor, carries-remainder}
 
--- A change that leaves a block a block of the same letter is a multiple of the generator.
-change : (bits e : ℕ) (letter : Letter) → isValid bits letter ≡ true → isValid (bits ⊕ e) letter ≡ true → syndrome e ≡ 0
-change bits e letter p q =
+-- A change that leaves a block a block of the same offset is a multiple of the generator.
+pub change : (bits e offset : ℕ) → carries bits offset ≡ true → carries (bits ⊕ e) offset ≡ true → syndrome e ≡ 0
+change bits e offset p q =
     sym (xor-undo (syndrome bits) (syndrome e))
-    ∙ ap (λ (x : ℕ). syndrome bits ⊕ x) (sym (syndrome-xor bits e) ∙ valid-remainder (bits ⊕ e) letter q ∙ sym (valid-remainder bits letter p))
+    ∙ ap (λ (x : ℕ). syndrome bits ⊕ x) (sym (syndrome-xor bits e) ∙ carries-remainder (bits ⊕ e) offset q ∙ sym (carries-remainder bits offset p))
     ∙ xor-self (syndrome bits)
 
-burst : (p k : ℕ) → k ≤ 16 → 0 < p → p < 1024 → syndrome (p * 2 ^ k) ≡ 0 → ⊥
+pub burst : (p k : ℕ) → k ≤ 16 → 0 < p → p < 1024 → syndrome (p * 2 ^ k) ≡ 0 → ⊥
 unfolding syndrome
 burst p k hk hp h e =
     let n : 26 ≡ 26 - k + k = omega arith in
@@ -42,14 +42,16 @@ pairs-shown : below 26 (λ i. below i (shown i)) ≡ true
 unfolding below shown syndrome remainder reduce
 pairs-shown = refl
 
-pair : (i j : ℕ) → i < 26 → j < i → syndrome (2 ^ i + 2 ^ j) ≡ 0 → ⊥
+pub pair : (i j : ℕ) → i < 26 → j < i → syndrome (2 ^ i + 2 ^ j) ≡ 0 → ⊥
 unfolding shown
 pair i j h l = eqb-false (syndrome (2 ^ i + 2 ^ j)) 0 (not-true _ (at-each i (shown i) (at-each 26 (λ i. below i (shown i)) pairs-shown i h) j l))
 
 -- A burst, a change of bits that lie within ten neighbouring places, never makes a block a block of its letter again. A change of one bit is a burst.
 pub burst-shown : (bits : ℕ) (letter : Letter) (p k : ℕ) → isValid bits letter ≡ true → k ≤ 16 → 0 < p → p < 1024 → isValid (bits ⊕ p * 2 ^ k) letter ≡ true → ⊥
-burst-shown bits letter p k t hk hp h u = burst p k hk hp h (change bits (p * 2 ^ k) letter t u)
+unfolding isValid
+burst-shown bits letter p k t hk hp h u = burst p k hk hp h (change bits (p * 2 ^ k) (offsetOf letter) t u)
 
 -- Neither does a change of any two bits.
 pub pair-shown : (bits : ℕ) (letter : Letter) (i j : ℕ) → isValid bits letter ≡ true → i < 26 → j < i → isValid (bits ⊕ (2 ^ i + 2 ^ j)) letter ≡ true → ⊥
-pair-shown bits letter i j t hi hj u = pair i j hi hj (change bits (2 ^ i + 2 ^ j) letter t u)
+unfolding isValid
+pair-shown bits letter i j t hi hj u = pair i j hi hj (change bits (2 ^ i + 2 ^ j) (offsetOf letter) t u)

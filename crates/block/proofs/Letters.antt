@@ -1,7 +1,7 @@
 -- Which letter 26 bits carry: at most one of the five, and `letterOf` is that one. Assumes nothing.
 use mathlib.Core.Path.{_≡_, refl, sym, ap, _∙_, subst}
 use mathlib.Core.Logic.{_↔_}
-use mathlib.Core.Bool.{Bool, true, false, cond, _&&_, false≢true}
+use mathlib.Core.Bool.{Bool, true, false, cond, false≢true}
 use Prim.Native.Nat.{ℕ, _*_, _/_, _%_, _^_, _≤_, _<_}
 use native.Mathlib.Omega.{arith}
 use borrow.Author.Tests.{eq-eqb, ne-eqb, eqb-true, eqb-false, ltb-true, lt-ltb, le-ltb}
@@ -14,7 +14,7 @@ use Rattle.block.specs.declared.Letter.{Letter}
 use Rattle.block.specs.declared.Letter.the-variants as frame
 use Rattle.block.specs.declared.Carried.{Carried}
 use Rattle.block.specs.declared.Carried.the-variants as carried
-use Rattle.block.specs.Block.{offsetOf, syndrome, checkWord, carries, isValid}
+use Rattle.block.specs.Block.{syndrome, checkWord, carries, isValid}
 use Rattle.block.specs.Letters.{AnyLetter, A, B, C, CPrime, D, anyOf, offsetOfAny, fits, one, firstOf, letterOf, letterWith, wordOf, likelyOf, placeOf}
 use Rattle.block.proofs.Validity.{carries-remainder, by-parts}
 
@@ -37,7 +37,8 @@ letter-by-offset bits h =
     first-same (fits bits) (λ x. eqb (checkWord (bits / 2 ^ 10) (bits % 2 ^ 10)) (offsetOfAny x))
     (λ x. and-yes _ (lt-ltb bits (2 ^ 26) h) ∙ turned (syndrome (bits / 2 ^ 10 * 2 ^ 10)) (offsetOfAny x) (bits % 2 ^ 10))
 
-within : (bits offset : ℕ) → carries bits offset ≡ true → ltb bits (2 ^ 26) ≡ true
+-- what carries an offset has 26 bits
+pub within : (bits offset : ℕ) → carries bits offset ≡ true → ltb bits (2 ^ 26) ≡ true
 unfolding carries
 within bits offset t = and-left (ltb bits (2 ^ 26)) (eqb (checkWord (bits / 2 ^ 10) offset) (bits % 2 ^ 10)) t
 

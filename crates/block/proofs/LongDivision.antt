@@ -1,7 +1,6 @@
 -- The long division as it is done on paper, a bit of the dividend after another: the rest so far, and its three laws. Assumes nothing.
-use mathlib.Core.Path.{_≡_, refl, sym, ap, ap₂, _∙_, subst}
+use mathlib.Core.Path.{_≡_, refl, sym, ap, _∙_}
 use Prim.Native.Nat.{ℕ, suc, _+_, _-_, _*_, _/_, _%_, _^_, _≤_, _<_}
-use native.Mathlib.Nat.{one-mul, mul-one}
 use native.Mathlib.Omega.{arith}
 use lib.Pow.{shr-shr}
 use lib.Bits.{xor-comm}
