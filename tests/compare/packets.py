@@ -13,9 +13,9 @@ from model.packet import NAMES
 
 from . import draw, listed, records, runs, smaller
 
-# The answers that paper 01 lists for each function. None of them may be missing from what was drawn.
+# The answers that papers 01 and 02 list for each function. None of them may be missing from what was drawn.
 ANSWERS = {"read": (0, 20, 23, 24, 25, 26, 27), "text": (0, 20, 23, 24, 25, 26, 27), "write": (0, 10, 20, 23, 25, 26, 27),
-           "air": (0, 10, 13, 20, 27), "receive": (0, 10, 11, 28), "offer": (0, 1, 2, 12, 13, 14, 15, 16, 17, 26, 28),
+           "air": (0, 10, 13, 20, 27), "receive": (0, 10, 11, 28), "offer": (0, 1, 2, 3, 12, 13, 14, 15, 16, 17, 26, 28),
            "release": (0, 18, 28), "copy": (0, 10, 18, 28)}
 ROOM = 65536  # the program reads as much at once
 

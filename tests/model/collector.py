@@ -28,6 +28,9 @@ class Place:
         """The pair's 4N bytes; none where a number is missing."""
         return b"".join(self.pieces[k] for k in range(self.total)) if len(self.pieces) == self.total else b""
 
+    def whole(self):
+        return len(self.pieces) == self.total and is_whole(self.joined())
+
 
 class Collector:
     def __init__(self):
@@ -46,7 +49,8 @@ class Collector:
         return next((p for p in self.places if p and p.pair == pair), None)
 
     def offer(self, f):
-        """Keeps a frame or says why not, in the paper's order: record, size, fixed bits, level, number, contradiction, repeat, place."""
+        """Keeps a frame or says why not, in the paper's order: record, size, fixed bits, level, number, contradiction, repeat, place.
+        What contradicts a pair that is not whole begins it again (paper 02, K5)."""
         if self.damaged():
             return 28
         if len(f) != 8:
@@ -58,20 +62,21 @@ class Collector:
             return 13
         if total == 0 or number >= total:
             return 14
-        place = self.of((level, version))
-        if place is not None:
-            if place.total != total or place.pieces.get(number, f[4:]) != f[4:]:
-                return 15
-            if number in place.pieces:
-                return 2
-        elif None not in self.places:
-            return 16
-        else:
+        place, answer = self.of((level, version)), 0
+        if place is None:
+            if None not in self.places:
+                return 16
             place = self.places[self.places.index(None)] = Place(level, version, total)
+        elif place.total != total or place.pieces.get(number, f[4:]) != f[4:]:
+            if place.whole():
+                return 15
+            place.total, place.pieces, answer = total, {}, 3
+        elif number in place.pieces:
+            return 2
         place.pieces[number] = f[4:]
         if len(place.pieces) < total:
-            return 0
-        return 1 if is_whole(place.joined()) else 17
+            return answer
+        return 1 if place.whole() else 17
 
     def release(self, level, version):
         """Makes the pair's place free; 18 where it has none."""
@@ -88,8 +93,8 @@ class Collector:
         if self.damaged():
             return 28, b""
         place = self.of((level, version))
-        joined = place.joined() if place else b""
-        if not joined or not is_whole(joined):
+        if place is None or not place.whole():
             return 18, b""
+        joined = place.joined()
         p = length(joined)
         return (10, b"") if room < p else (0, joined[:p])

@@ -1,7 +1,7 @@
 -- One place: a frame against it, whole or spoiled, and a copy from it; a law for each way out of the code. Assumes nothing.
 use mathlib.Core.Path.{_≡_, sym, ap, ap₂, _∙_}
-use mathlib.Core.List.{List, [], _∷_, _++_}
-use mathlib.Core.Bool.{true, false, not, _&&_}
+use mathlib.Core.List.{List, [], _++_}
+use mathlib.Core.Bool.{true, false, cond, not, _&&_}
 use Prim.Native.Nat.{ℕ, _+_, _*_, _%_, _<_, _≤_}
 use native.Mathlib.Omega.{arith}
 use lib.ListN.{length, drop, take, length-take}
@@ -21,26 +21,34 @@ use Rattle.collector.specs.Places.{marked, complete, sameFour, contradic
 
 -- ---- a frame against a place of its pair
 module _ (p : Place) (x : Piece) where
-  pub other-total : (p .total .0 ≡ x .heading .total .0 → ⊥) → against p x ≡ 15
-  unfolding against contradicts
-  other-total n = stop 15 ((again p x, 2) ∷ []) (or-yes _ (ap not (ne-eqb _ _ n)))
+  pub opposed : contradicts p x ≡ true → again p x ≡ false → against p x ≡ cond (whole p) 15 3
+  unfolding against
+  opposed k a =
+      by-test (whole p)
+      (λ w. stop 15 _ (and-yes _ k ∙ w) ∙ sym (if-yes _ _ w))
+      (λ w. pass 15 _ (and-yes _ k ∙ w) ∙ pass 2 _ a ∙ stop 3 [] k ∙ sym (if-no _ _ w))
+
+  pub other-total : (p .total .0 ≡ x .heading .total .0 → ⊥) → against p x ≡ cond (whole p) 15 3
+  unfolding contradicts again
+  other-total n = opposed (or-yes _ (ap not (ne-eqb _ _ n))) (and-no _ (ne-eqb _ _ n))
 
   module _ (t : p .total .0 ≡ x .heading .total .0) where
-    same-total : contradicts p x ≡ (marked p (x .heading .number) && not (sameFour p x))
+    pub same-total : contradicts p x ≡ (marked p (x .heading .number) && not (sameFour p x))
     unfolding contradicts
     same-total = or-no _ (ap not (eq-eqb _ _ t))
 
     pub new-number : marked p (x .heading .number) ≡ false → against p x ≡ 0
     unfolding against again
-    new-number m = pass 15 _ (same-total ∙ and-no _ m) ∙ pass 2 [] (and-no _ m) ∙ none-left
+    new-number m =
+        pass 15 _ (and-no _ (same-total ∙ and-no _ m)) ∙ pass 2 _ (and-yes _ (eq-eqb _ _ t) ∙ and-no _ m) ∙ pass 3 [] (same-total ∙ and-no _ m) ∙ none-left
 
     pub same-frame : marked p (x .heading .number) ≡ true → sameFour p x ≡ true → against p x ≡ 2
     unfolding against again
-    same-frame m f = pass 15 _ (same-total ∙ and-yes _ m ∙ ap not f) ∙ stop 2 [] (and-yes _ m ∙ f)
+    same-frame m f = pass 15 _ (and-no _ (same-total ∙ and-yes _ m ∙ ap not f)) ∙ stop 2 _ (and-yes _ (eq-eqb _ _ t) ∙ and-yes _ m ∙ f)
 
-    pub other-bytes : marked p (x .heading .number) ≡ true → sameFour p x ≡ false → against p x ≡ 15
-    unfolding against
-    other-bytes m f = stop 15 _ (same-total ∙ and-yes _ m ∙ ap not f)
+    pub other-bytes : marked p (x .heading .number) ≡ true → sameFour p x ≡ false → against p x ≡ cond (whole p) 15 3
+    unfolding again
+    other-bytes m f = opposed (same-total ∙ and-yes _ m ∙ ap not f) (and-yes _ (eq-eqb _ _ t) ∙ and-yes _ m ∙ f)
 
 -- ---- whole or spoiled
 module _ (p : Place) where

@@ -64,28 +64,34 @@ pieceOf f = pieceWith (headingFields f) f
 abbrev pub itsPlace : Collector → Piece → Place
 itsPlace c x = placeOf (x .heading .level) (x .heading .version) (c .places)
 
+-- the frame contradicts what is held for its pair (01, Collector)
+abbrev pub contradicted : Collector → Piece → Bool
+contradicted c x = itsPlace c x .held && contradicts (itsPlace c x) x
+
 -- where a frame is kept: in its pair's place, or in the first free one, taken for it
 unfoldable pub spot : Collector → Piece → ℕ
 spot c x =
     cond (itsPlace c x .held) (indexOfPair (x .heading .level) (x .heading .version) (c .places)) (indexOfFree (c .places))
 
--- that place with the frame kept in it; zeroed first where it is newly taken
+-- that place with the frame kept in it; zeroed first where it is newly taken, or contradicted (02, K5)
 unfoldable pub after : Collector → Piece → Place
-after c x = stored (cond (itsPlace c x .held) (itsPlace c x) (takenFor x)) x
+after c x = stored (cond (itsPlace c x .held && not (contradicts (itsPlace c x) x)) (itsPlace c x) (takenFor x)) x
 
--- 15, 2, 16; then by what the pair is with the frame kept: 17, 1, or 0 where some number is missing (01, Numbers given back)
+-- 15 for a whole pair, 2, 16; then by what the pair is with the frame kept: 17, 1, 3 where it was begun again, or 0 where some number is
+-- missing (01, Numbers given back; 02, K5)
 unfoldable pub takeCases : Collector → Piece → List Case
 takeCases c x =
-    (itsPlace c x .held && contradicts (itsPlace c x) x, 15)
+    (contradicted c x && whole (itsPlace c x), 15)
     ∷ (itsPlace c x .held && again (itsPlace c x) x, 2)
     ∷ (not (itsPlace c x .held) && all isHeld (c .places), 16)
     ∷ (spoiled (after c x), 17)
     ∷ (whole (after c x), 1)
+    ∷ (contradicted c x, 3)
     ∷ []
 
--- 0, 1 and 17 keep their frame
+-- 0, 1, 3 and 17 keep their frame
 unfoldable pub keeps : ℕ → Bool
-keeps n = eqb n 0 || (eqb n 1 || eqb n 17)
+keeps n = eqb n 0 || (eqb n 1 || (eqb n 3 || eqb n 17))
 
 -- an offer of what the heading lets in, to a good record
 unfoldable pub takenIn : Collector → Piece → Offered
@@ -98,6 +104,14 @@ takenIn c x =
 -- a frame kept in place i, which was p: the answer by what the pair is then
 unfoldable pub kept : Collector → ℕ → Place → Piece → Offered
 kept c i p x = record { answer = state (stored p x); collector = put c i (stored p x) }
+
+-- a frame kept in place i, which is cleared and taken afresh: 3 in place of 0 (02, K5)
+unfoldable pub begun : Collector → ℕ → Piece → Offered
+begun c i x =
+    record {
+      answer = cond (eqb (state (stored (takenFor x) x)) 0) 3 (state (stored (takenFor x) x));
+      collector = put c i (stored (takenFor x) x);
+    }
 
 -- 28, then 26, 12, 13, 14 by the heading alone, then what the collector holds
 unfoldable pub offerCases : Collector → List ℕ → List Case

@@ -88,32 +88,35 @@ sameFour p x =
     && (eqb (getD (p .bytes) (x .heading .number .0 * 4 + 2) 0) (x .c)
     && eqb (getD (p .bytes) (x .heading .number .0 * 4 + 3) 0) (x .d)))
 
--- 15: another total, or the same number with other bytes (01, Numbers given back)
+-- another total, or the same number with other bytes (01, Collector)
 unfoldable pub contradicts : Place → Piece → Bool
 contradicts p x =
     not (eqb (p .total .0) (x .heading .total .0)) || (marked p (x .heading .number) && not (sameFour p x))
 
 -- 2: the same frame is held already
 unfoldable pub again : Place → Piece → Bool
-again p x = marked p (x .heading .number) && sameFour p x
-
--- 15 or 2 by what the place holds, else 0
-unfoldable pub against : Place → Piece → ℕ
-against p x = first ((contradicts p x, 15) ∷ (again p x, 2) ∷ [])
+again p x = eqb (p .total .0) (x .heading .total .0) && (marked p (x .heading .number) && sameFour p x)
 
 -- ---- a place changes
 
--- a place is taken: zeroed, no mark (01, Collector)
-unfoldable pub takenFor : Piece → Place
-takenFor x =
+-- a place is cleared: zeroed, no mark, the frame's total (01, Collector; 02, K5)
+abbrev pub cleared : Place → Piece → Place
+cleared p x =
     record {
-      held = true;
-      level = x .heading .level;
-      version = x .heading .version;
+      held = p .held;
+      level = p .level;
+      version = p .version;
       total = x .heading .total;
       marks = noMarks;
       bytes = replicate 252 0;
     }
+
+-- a place is taken for the frame's pair: cleared, whatever it was
+unfoldable pub takenFor : Piece → Place
+takenFor x =
+    cleared
+    (record { held = true; level = x .heading .level; version = x .heading .version; total = x .heading .total; marks = noMarks; bytes = [] })
+    x
 
 -- a frame is kept: its mark, and its four bytes at four times its number
 unfoldable pub stored : Place → Piece → Place
@@ -156,6 +159,11 @@ spoiled p = complete p && not (passes (joined p))
 -- 17, 1, or 0 where some number is missing (01, Numbers given back)
 unfoldable pub state : Place → ℕ
 state p = first ((spoiled p, 17) ∷ (whole p, 1) ∷ [])
+
+-- what a place has against a frame of its pair: 15 where a whole one is contradicted, 2 where it holds the frame already, 3 where
+-- another is contradicted (02, K5); else 0
+unfoldable pub against : Place → Piece → ℕ
+against p x = first ((contradicts p x && whole p, 15) ∷ (again p x, 2) ∷ (contradicts p x, 3) ∷ [])
 
 -- ---- copy from a place: 18, 10, else 0, the packet's size and its bytes at the start of what is lent
 

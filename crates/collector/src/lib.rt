@@ -1,10 +1,11 @@
-// The collector: frames in any order, with repeats, become packets; a pair is declared whole or spoiled once.
+// The collector: frames in any order, with repeats, become packets; a pair is declared whole or spoiled once, and again only if a
+// contradiction cleared it.
 ghost use mathlib.Core.Path.{_≡_};
 ghost use Prim.Native.Nat.{_+_, _<_};
 ghost use lib.ListN.{length, drop};
 ghost use Rattle.laws.specs.Scan.{all};
 ghost use Rattle.collector.specs.Places.{Small, pairsApart};
-ghost use Rattle.collector.specs.Collector.{nothing, good, indexOfPair, indexOfFree, pieceWith, kept, takenIn, offered, released, answered, copied};
+ghost use Rattle.collector.specs.Collector.{nothing, good, indexOfPair, indexOfFree, put, pieceWith, kept, begun, takenIn, offered, released, answered, copied};
 
 mod places;
 mod whole;
@@ -121,18 +122,41 @@ fn first_free(c: Collector) -> usize
     j
 }
 
+// The collector with another place at `i`, as it was where it has none.
+fn put_place(c: Collector, i: usize, p: Place) -> Collector
+    ensures { λ r. ⌜ r ≡ put c i p ⌝ }
+{
+    if i < 4 {
+        let mut d = c;
+        d.places[i] = p;
+        return d;
+    }
+    c
+}
+
 // The collector with the piece kept in place `i`, which was `p`.
 fn keep_in(c: Collector, i: usize, p: Place, x: Piece) -> Offered
-    requires { ⌜ (i < 4) × Small x ⌝ }
+    requires { ⌜ Small x ⌝ }
     ensures { λ r. ⌜ r ≡ kept c i p x ⌝ }
 {
     let q = places::store(p, x);
-    let mut d = c;
-    d.places[i] = q;
+    let d = put_place(c, i, q);
     Offered {
         answer: places::state_of(q),
         collector: d,
     }
+}
+
+// The collector with place `i`, which was `p`, cleared and taken afresh, and the piece kept in it: 3 in place of 0.
+fn begin_again(c: Collector, i: usize, p: Place, x: Piece) -> Offered
+    requires { ⌜ Small x ⌝ }
+    ensures { λ r. ⌜ r ≡ begun c i x ⌝ }
+{
+    let mut o = keep_in(c, i, places::take(p, x), x);
+    if o.answer == 0 {
+        o.answer = 3;
+    }
+    o
 }
 
 fn take_in(c: Collector, x: Piece) -> Offered
@@ -146,6 +170,9 @@ fn take_in(c: Collector, x: Piece) -> Offered
         if why == 0 {
             return keep_in(c, i, p, x);
         }
+        if why == 3 {
+            return begin_again(c, i, p, x);
+        }
         return Offered {
             answer: why,
             collector: c,
@@ -153,7 +180,8 @@ fn take_in(c: Collector, x: Piece) -> Offered
     }
     let j = first_free(c);
     if j < 4 {
-        return keep_in(c, j, places::take(x), x);
+        let q = c.places[j];
+        return keep_in(c, j, places::take(q, x), x);
     }
     Offered {
         answer: 16,
@@ -161,7 +189,7 @@ fn take_in(c: Collector, x: Piece) -> Offered
     }
 }
 
-// Takes a frame in: 28, 26, 12, 13, 14, 15, 2 or 16 where it isn't kept, else 0, 1 or 17 by what its pair is now.
+// Takes a frame in: 28, 26, 12, 13, 14, 15, 2 or 16 where it isn't kept, else 0, 1, 3 or 17 by what its pair is now.
 pub fn offer(collector: Collector, frame: &[u8]) -> Offered
     ensures { λ r. ⌜ r ≡ offered collector (now (frame .entry)) ⌝ }
 {
@@ -207,8 +235,7 @@ pub fn release(collector: Collector, level: u8, version: u8) -> Offered
     let i = index_of(collector, level, version);
     if i < 4 {
         let p = collector.places[i];
-        let mut c = collector;
-        c.places[i] = places::make_free(p);
+        let c = put_place(collector, i, places::make_free(p));
         return Offered {
             answer: 0,
             collector: c,

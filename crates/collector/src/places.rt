@@ -1,12 +1,12 @@
 // One place: its pair, its marks, its bytes, and what it is by them.
 ghost use mathlib.Core.Path.{_≡_};
-ghost use mathlib.Core.Bool.{true, false};
+ghost use mathlib.Core.Bool.{true, false, cond};
 ghost use mathlib.Core.List.{_++_};
 ghost use Prim.Native.Nat.{_+_, _*_, _<_, _≤_};
 ghost use lib.ListN.{length, getD, take, drop};
 ghost use Rattle.laws.specs.Refusals.{first};
 ghost use Rattle.collector.specs.Whole.{passes};
-ghost use Rattle.collector.specs.Places.{Small, free, isPair, samePair, withMark, astray, marksBelow, complete, fair, sameFour, against, stored, takenFor, freed, joined, state, copyCases, copyAnswer, copyBytes};
+ghost use Rattle.collector.specs.Places.{Small, free, isPair, samePair, withMark, astray, marksBelow, complete, fair, sameFour, against, stored, cleared, takenFor, freed, joined, whole, state, copyCases, copyAnswer, copyBytes};
 use crate::Copied;
 use crate::Number;
 use crate::Piece;
@@ -155,35 +155,32 @@ fn same_four(p: Place, x: Piece) -> bool
     p.bytes[at + 3] == x.d
 }
 
-// 15 where the frame contradicts the place, 2 where the place holds it already, else 0.
-pub(crate) fn held_against(p: Place, x: Piece) -> u8
-    requires { ⌜ Small x ⌝ }
-    ensures { λ r. ⌜ r ≡ against p x ⌝ }
-{
-    if p.total.0 != x.heading.total.0 {
-        return 15;
-    }
-    if !is_marked(&p.marks, x.heading.number) {
-        return 0;
-    }
-    if same_four(p, x) { 2 } else { 15 }
-}
-
-// A place taken for the frame's pair, zeroed, with no mark.
-pub(crate) fn take(x: Piece) -> Place
-    ensures { λ r. ⌜ r ≡ takenFor x ⌝ }
+// The place zeroed, with no mark, and with the frame's total.
+fn clear(p: Place, x: Piece) -> Place
+    ensures { λ r. ⌜ r ≡ cleared p x ⌝ }
 {
     let total = x.heading.total;
     let marks = [false; 63];
     let bytes = [0; 252];
     Place {
-        held: true,
-        level: x.heading.level,
-        version: x.heading.version,
+        held: p.held,
+        level: p.level,
+        version: p.version,
         total: total,
         marks: marks,
         bytes: bytes,
     }
+}
+
+// The place cleared and taken for the frame's pair, whatever it was.
+pub(crate) fn take(p: Place, x: Piece) -> Place
+    ensures { λ r. ⌜ r ≡ takenFor x ⌝ }
+{
+    let mut q = p;
+    q.held = true;
+    q.level = x.heading.level;
+    q.version = x.heading.version;
+    clear(q, x)
 }
 
 // The place with the frame's mark and its four bytes.
@@ -232,6 +229,27 @@ pub(crate) fn state_of(p: Place) -> u8
         return 0;
     }
     if joined_passes(p) { 1 } else { 17 }
+}
+
+// The number for a contradicted place: 15 where it is whole, 3 where it begins again.
+fn contradiction(p: Place) -> u8
+    ensures { λ r. ⌜ r ≡ cond (whole p) 15 3 ⌝ }
+{
+    if state_of(p) == 1 { 15 } else { 3 }
+}
+
+// 15 or 3 where the frame contradicts the place, 2 where the place holds it already, else 0.
+pub(crate) fn held_against(p: Place, x: Piece) -> u8
+    requires { ⌜ Small x ⌝ }
+    ensures { λ r. ⌜ r ≡ against p x ⌝ }
+{
+    if p.total.0 != x.heading.total.0 {
+        return contradiction(p);
+    }
+    if !is_marked(&p.marks, x.heading.number) {
+        return 0;
+    }
+    if same_four(p, x) { 2 } else { contradiction(p) }
 }
 
 // Writes the first n bytes of the place to the start of `out`.

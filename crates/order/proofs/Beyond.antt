@@ -12,9 +12,9 @@ use lib.Dec.{eqb, ltb}
 use borrow.Author.Tests.{eqb-true, eq-eqb, ltb-true, ltb-false, not-true}
 use Rattle.laws.specs.Scan.{all, indexOf}
 use Rattle.laws.specs.Refusals.{first}
-use Rattle.laws.proofs.Cases.{if-yes, if-no, and-yes, and-no, and-left, and-right, or-yes, or-no}
+use Rattle.laws.proofs.Cases.{if-yes, if-no, and-yes, and-no, and-left, and-right, and-both, or-yes, or-no}
 use Rattle.laws.proofs.Elements.{by-test, index-yes, index-no, index-holds, all-head, all-tail}
-use Rattle.laws.proofs.Refusals.{stop, pass, none-left, exact}
+use Rattle.laws.proofs.Refusals.{exact}
 use Rattle.frame.specs.declared.Total.{Total}
 use Rattle.frame.specs.declared.Number.{Number}
 use Rattle.frame.specs.Heading.{refusals, accepted}
@@ -23,16 +23,18 @@ use Rattle.collector.specs.declared.Place.{Place}
 use Rattle.collector.specs.declared.Collector.{Collector}
 use Rattle.collector.specs.declared.Piece.{Piece}
 use Rattle.collector.specs.declared.Offered.{Offered}
-use Rattle.collector.specs.Places.{blank, isPair, pairsApart, marked, sameFour, contradicts, again, against, takenFor, freed}
-use Rattle.collector.specs.Collector.{nothing, good, indexOfPair, itsPlace, put, pieceOf, takeCases, keeps, takenIn, offerCases, offered, released}
+use Rattle.collector.specs.Places.{blank, isPair, pairsApart, marked, sameFour, contradicts, against, takenFor, freed, whole}
+use Rattle.collector.specs.Collector.{nothing, good, indexOfPair, itsPlace, contradicted, put, pieceOf, takeCases, keeps, takenIn, offerCases, offered, released}
 use Rattle.collector.proofs.Calls.{offer-apart, release-0, release-18}
-use Rattle.collector.proofs.AllPlaces.{is-held, is-not-held, take-against}
-use Rattle.order.specs.Held.{Good, Four, bytesAt, fourAt, heldPlace, holdsIn, totalIn, holds, totalHeld, Act, offering, releasing, run}
-use Rattle.order.specs.Given.{four, ofPair, ofNumber, sameBytes, contradict, isSome, Said, Added, keptSince}
+use Rattle.collector.proofs.AllPlaces.{is-held, is-not-held, take-against, against-three}
+use Rattle.order.specs.Held.{Good, Four, bytesAt, fourAt, heldPlace, holdsIn, totalIn, holds, totalHeld, startsOver, clears, Act, offering, releasing, run}
+use Rattle.order.specs.Given.{four, ofPair, ofNumber, sameBytes, contradict, isSome, Said, Added, Afresh, Kept, keptSince}
 use Rattle.order.proofs.HeldPlace.{held-place-no, held-place-found, held-place-missing, held-place-miss}
-use Rattle.order.proofs.Keeping.{kept-collector, freed-is, good-apart, good-tail, empty-good, offer-good, release-good}
-use Rattle.order.proofs.Outcome.{Outcome, turned, joins, starts, finds-none, outcome, atPair, atFree}
+use Rattle.order.proofs.Keeping.{kept-collector, begun-collector, freed-is, good-apart, good-tail, empty-good, offer-good, release-good}
+use Rattle.order.proofs.Outcome.{Outcome, turned, joins, begins, starts, finds-none, outcome, atPair, atFree}
+use Rattle.order.proofs.Stepping.{begun-afresh}
 use Rattle.order.proofs.Declaring.{four-marked, marked-four}
+use Rattle.order.proofs.Again.{against-else, whole-fifteen, over-three}
 use Rattle.order.proofs.Running.{some-inj, none-some}
 use Rattle.order.proofs.Offering.{offered-taken, offered-refused, accepted-none, refused-some}
 use Rattle.order.proofs.Theorems.{run-keeps-good, refusal-keeps}
@@ -41,15 +43,9 @@ use Rattle.order.proofs.Only.{one-pair}
 
 -- ---- what is kept
 -- what is against a frame does not keep it
-turns-away : (p : Place) (x : Piece) (a : ℕ) → a ≡ against p x → (a ≡ 0 → ⊥) → keeps a ≡ false
-unfolding against keeps
-turns-away p x a e n =
-    by-test (contradicts p x)
-    (λ t. ap keeps (e ∙ stop 15 _ t))
-    (λ t.
-    by-test (again p x)
-    (λ u. ap keeps (e ∙ pass 15 _ t ∙ stop 2 [] u))
-    (λ u. absurd (n (e ∙ pass 15 _ t ∙ pass 2 [] u ∙ none-left))))
+turns-away : (p : Place) (x : Piece) (a : ℕ) → a ≡ against p x → (a ≡ 0 → ⊥) → (a ≡ 3 → ⊥) → keeps a ≡ false
+unfolding keeps
+turns-away p x a e n m = against-else p x (λ (k : ℕ). keeps k ≡ false) refl refl a e n m
 
 keeps-not : (k : ℕ) → keeps k ≡ false → (c : Collector) (x : Piece) → record { answer = k; collector = c } ≡ takenIn c x → keeps (takenIn c x .answer) ≡ true → ⊥
 keeps-not k n c x o e = true≢false (sym (ap (λ (r : Offered). keeps (r .answer)) o ∙ e) ∙ n)
@@ -59,30 +55,54 @@ unfolding keeps
 keeps-16 = refl
 
 module _ (c : Collector) (x : Piece) (g : Good c) (b : Bounds (x .heading)) where
-  taken-added : keeps (takenIn c x .answer) ≡ true → Added c x (takenIn c x .collector)
-  taken-added e = by-outcome (outcome c x)
+  taken-kept : keeps (takenIn c x .answer) ≡ true → Kept c x (takenIn c x .collector)
+  unfolding indexOfPair
+  taken-kept e = by-outcome (outcome c x)
     where
-      by-outcome : Outcome c x → Added c x (takenIn c x .collector)
-      by-outcome (turned k h a n o) = absurd (keeps-not k (turns-away (itsPlace c x) x k a n) c x o e)
-      by-outcome (joins h a o) = subst (Added c x) (sym (kept-collector c (atPair c x) (itsPlace c x) x) ∙ ap (λ (r : Offered). r .collector) o) (joins-added c x g b h a)
-      by-outcome (starts h k o) = subst (Added c x) (sym (kept-collector c (atFree c) (takenFor x) x) ∙ ap (λ (r : Offered). r .collector) o) (starts-added c x g b h k)
+      over : atPair c x < length (c .places) → against (itsPlace c x) x ≡ 3 → startsOver c x ≡ true
+      over h a =
+          let z = against-three (itsPlace c x) x a in
+          and-yes _ (and-yes _ (is-held (c .places) (x .heading .level) (x .heading .version) h) ∙ z .0) ∙ ap not (z .2)
+
+      never : length (c .places) ≤ atPair c x → startsOver c x ≡ true → ⊥
+      never h s =
+          true≢false (sym (and-left (itsPlace c x .held) _ (and-left (contradicted c x) _ s)) ∙ is-not-held (c .places) (x .heading .level) (x .heading .version) h)
+
+      fits : x .heading .number .0 < 63
+      fits = let n = b .number-below in let u = b .total-high in omega arith
+
+      by-outcome : Outcome c x → Kept c x (takenIn c x .collector)
+      by-outcome (turned k h a n m o) = absurd (keeps-not k (turns-away (itsPlace c x) x k a n m) c x o e)
+      by-outcome (joins h a o) = (
+        λ s. subst (Added c x) (sym (kept-collector c (atPair c x) (itsPlace c x) x) ∙ ap (λ (r : Offered). r .collector) o) (joins-added c x g b h a),
+        λ s. let z : _≡_ {A = ℕ} 3 0 = sym (over-three c x s) ∙ a in absurd (omega arith),
+      )
+      by-outcome (begins h a o) = (
+        λ s. absurd (true≢false (sym (over h a) ∙ s)),
+        λ s. subst (Afresh c x) (sym (begun-collector c (atPair c x) x) ∙ ap (λ (r : Offered). r .collector) o) (begun-afresh c x h fits),
+      )
+      by-outcome (starts h k o) = (
+        λ s. subst (Added c x) (sym (kept-collector c (atFree c) (takenFor x) x) ∙ ap (λ (r : Offered). r .collector) o) (starts-added c x g b h k),
+        λ s. absurd (never h s),
+      )
       by-outcome (finds-none h k o) = absurd (keeps-not 16 keeps-16 c x o e)
 
 refused-keeps-none : (f : List ℕ) → accepted f ≡ false → keeps (first (refusals f)) ≡ false
 unfolding keeps
 refused-keeps-none f e = refused-with f (refused-some f e) (λ (k : ℕ). keeps k ≡ false) refl refl refl refl
 
--- Whatever frame is offered to a good collector: 0, 1 and 17 keep exactly this frame, whose heading is accepted and whose number was not held;
--- with any other number the collector is the one that was given.
+-- Whatever frame is offered to a good collector: 0, 1, 3 and 17 keep exactly this frame, whose heading is accepted: beside what is held, where its
+-- number was not; in place of what was held for its pair, where it contradicts a pair that is not whole. With any other number the collector is
+-- the one that was given.
 pub kept-exactly : (c : Collector) (f : List ℕ) → Good c
-    → (keeps (offered c f .answer) ≡ true → (accepted f ≡ true) × Added c (pieceOf f) (offered c f .collector))
+    → (keeps (offered c f .answer) ≡ true → (accepted f ≡ true) × Kept c (pieceOf f) (offered c f .collector))
     × (keeps (offered c f .answer) ≡ false → offered c f .collector ≡ c)
 kept-exactly c f g = (
   λ k.
       by-test (accepted f)
       (λ a.
       let w = offered-taken c f g a in
-      (a, subst (λ (o : Offered). Added c (pieceOf f) (o .collector)) (sym w) (taken-added c (pieceOf f) g (bounds f (accepted-none f a)) (sym (ap (λ (o : Offered). keeps (o .answer)) w) ∙ k))))
+      (a, subst (λ (o : Offered). Kept c (pieceOf f) (o .collector)) (sym w) (taken-kept c (pieceOf f) g (bounds f (accepted-none f a)) (sym (ap (λ (o : Offered). keeps (o .answer)) w) ∙ k))))
       (λ a. absurd (true≢false (sym k ∙ ap (λ (o : Offered). keeps (o .answer)) (offered-refused c f g a) ∙ refused-keeps-none f a))),
   λ k. refusal-keeps c .0 f k,
 )
@@ -200,16 +220,55 @@ module _ (l v : ℕ) (gs : List (List ℕ)) (c : Collector) (f : List ℕ) (y : 
         total = λ t e. y .total t (sym (k .total l v ∙ if-no _ _ p) ∙ e);
       }
 
+module _ (l v : ℕ) (gs : List (List ℕ)) (c : Collector) (f : List ℕ) (d : Collector) (k : Afresh c (pieceOf f) d) where
+  afresh-mine : accepted f ≡ true → ofPair l v (pieceOf f) ≡ true → HeldBy l v (f ∷ []) d
+  afresh-mine a p =
+      let x = pieceOf f in
+      record {
+        bytes = λ n b e.
+            by-test (eqb (x .heading .number .0) (n .0))
+            (λ t. (f, List·Memᴰ·head refl, a, and-yes _ p ∙ t, some-inj (sym (k .bytes l v n ∙ if-yes _ _ p ∙ if-yes _ _ t) ∙ e)))
+            (λ t. absurd (none-some (sym (k .bytes l v n ∙ if-yes _ _ p ∙ if-no _ _ t) ∙ e)));
+        total = λ t e. (f, List·Memᴰ·head refl, a, p, some-inj (sym (k .total l v ∙ if-yes _ _ p) ∙ e));
+      }
+
+  afresh-other : HeldBy l v gs c → ofPair l v (pieceOf f) ≡ false → HeldBy l v gs d
+  afresh-other y p =
+      record {
+        bytes = λ n b e. y .bytes n b (sym (k .bytes l v n ∙ if-no _ _ p) ∙ e);
+        total = λ t e. y .total t (sym (k .total l v ∙ if-no _ _ p) ∙ e);
+      }
+
+-- a frame of the pair with an accepted heading clears it just where it starts over
+clears-own : (l v : ℕ) (c : Collector) (f : List ℕ) → accepted f ≡ true → ofPair l v (pieceOf f) ≡ true → clears l v c f ≡ startsOver c (pieceOf f)
+unfolding clears
+clears-own l v c f a p = and-yes _ p ∙ and-yes _ a
+
+clears-other : (l v : ℕ) (c : Collector) (f : List ℕ) → ofPair l v (pieceOf f) ≡ false → clears l v c f ≡ false
+unfolding clears
+clears-other l v c f p = and-no _ p
+
 module _ (l v : ℕ) where
   offer-held-by : (gs : List (List ℕ)) (c : Collector) (f : List ℕ) → Good c → HeldBy l v gs c
-      → HeldBy l v (cond (ofPair l v (pieceOf f) && keeps (offered c f .answer)) (f ∷ gs) gs) (offered c f .collector)
+      → HeldBy l v (cond (ofPair l v (pieceOf f) && keeps (offered c f .answer)) (f ∷ cond (clears l v c f) [] gs) gs) (offered c f .collector)
   offer-held-by gs c f g y =
+      let d = offered c f .collector in
       by-test (keeps (offered c f .answer))
       (λ k.
       let w = kept-exactly c f g .0 k in
       by-test (ofPair l v (pieceOf f))
-      (λ p. subst (λ (hs : List (List ℕ)). HeldBy l v hs (offered c f .collector)) (sym (if-yes _ _ (and-yes _ p ∙ k))) (added-mine l v gs c f y (offered c f .collector) (w .0) (w .1) p))
-      (λ p. subst (λ (hs : List (List ℕ)). HeldBy l v hs (offered c f .collector)) (sym (if-no _ _ (and-no _ p))) (added-other l v gs c f y (offered c f .collector) (w .0) (w .1) p)))
+      (λ p.
+      subst (λ (hs : List (List ℕ)). HeldBy l v hs d) (sym (if-yes _ _ (and-yes _ p ∙ k)))
+      (by-test (startsOver c (pieceOf f))
+      (λ s.
+      subst (λ (hs : List (List ℕ)). HeldBy l v (f ∷ hs) d) (sym (if-yes _ _ (clears-own l v c f (w .0) p ∙ s))) (afresh-mine l v gs c f d (w .1 .1 s) (w .0) p))
+      (λ s.
+      subst (λ (hs : List (List ℕ)). HeldBy l v (f ∷ hs) d) (sym (if-no _ _ (clears-own l v c f (w .0) p ∙ s))) (added-mine l v gs c f y d (w .0) (w .1 .0 s) p))))
+      (λ p.
+      subst (λ (hs : List (List ℕ)). HeldBy l v hs d) (sym (if-no _ _ (and-no _ p)))
+      (by-test (startsOver c (pieceOf f))
+      (λ s. afresh-other l v gs c f d (w .1 .1 s) y p)
+      (λ s. added-other l v gs c f y d (w .0) (w .1 .0 s) p))))
       (λ k.
       subst (λ (hs : List (List ℕ)). HeldBy l v hs (offered c f .collector)) (sym (if-no _ _ (ap (λ (t : Bool). ofPair l v (pieceOf f) && t) k ∙ and-false (ofPair l v (pieceOf f)))))
       (subst (HeldBy l v gs) (sym (kept-exactly c f g .1 k)) y))
@@ -241,7 +300,7 @@ module _ (l v : ℕ) where
   empty-held-by = record { bytes = λ n b e. absurd (none-some e); total = λ t e. absurd (none-some e) }
 
 -- what the case of 15 says of the place of the frame's pair
-case-15 : (c : Collector) (f : List ℕ) → offered c f .answer ≡ 15 → (itsPlace c (pieceOf f) .held && contradicts (itsPlace c (pieceOf f)) (pieceOf f)) ≡ true
+case-15 : (c : Collector) (f : List ℕ) → offered c f .answer ≡ 15 → (contradicted c (pieceOf f) && whole (itsPlace c (pieceOf f))) ≡ true
 unfolding offered offerCases refusals takeCases
 case-15 c f e = exact (offerCases c f) (offer-apart c f) 5 (omega arith) .0 e .0
 
@@ -306,31 +365,52 @@ AreHeld l v gs c =
 
 module _ (l v : ℕ) where
   offer-are-held : (gs : List (List ℕ)) (c : Collector) (f : List ℕ) → Good c → AreHeld l v gs c
-      → AreHeld l v (cond (ofPair l v (pieceOf f) && keeps (offered c f .answer)) (f ∷ gs) gs) (offered c f .collector)
+      → AreHeld l v (cond (ofPair l v (pieceOf f) && keeps (offered c f .answer)) (f ∷ cond (clears l v c f) [] gs) gs) (offered c f .collector)
   unfolding AreHeld
   offer-are-held gs c f g y =
       by-test (ofPair l v (pieceOf f) && keeps (offered c f .answer))
       (λ t. subst (λ (hs : List (List ℕ)). AreHeld l v hs (offered c f .collector)) (sym (if-yes _ _ t)) (with-it t))
-      (λ t. subst (λ (hs : List (List ℕ)). AreHeld l v hs (offered c f .collector)) (sym (if-no _ _ t)) still)
+      (λ t. subst (λ (hs : List (List ℕ)). AreHeld l v hs (offered c f .collector)) (sym (if-no _ _ t)) (without t))
     where
-      still : AreHeld l v gs (offered c f .collector)
-      still h m =
-          let s = held-stays c f g in
-          let w = y h m in
-          (s .bytes l v (pieceOf h .heading .number) (four (pieceOf h)) (w .0), s .total l v (pieceOf h .heading .total) (w .1))
+      d : Collector
+      d = offered c f .collector
 
-      with-it : (ofPair l v (pieceOf f) && keeps (offered c f .answer)) ≡ true → AreHeld l v (f ∷ gs) (offered c f .collector)
-      with-it t h m =
+      -- a frame that is held, with its pair's total
+      Own : List ℕ → Type 0
+      Own z = (holds d l v (pieceOf z .heading .number) ≡ some (four (pieceOf z))) × (totalHeld d l v ≡ some (pieceOf z .heading .total))
+
+      still : clears l v c f ≡ false → AreHeld l v gs d
+      still k h m =
+          let s = held-stays l v c f g k in
+          let w = y h m in
+          (s .bytes (pieceOf h .heading .number) (four (pieceOf h)) (w .0), s .total (pieceOf h .heading .total) (w .1))
+
+      without : (ofPair l v (pieceOf f) && keeps (offered c f .answer)) ≡ false → AreHeld l v gs d
+      without t =
+          by-test (keeps (offered c f .answer))
+          (λ k. still (clears-other l v c f (by-test (ofPair l v (pieceOf f)) (λ p. absurd (true≢false (sym (and-yes _ p ∙ k) ∙ t))) (λ p. p))))
+          (λ k. subst (AreHeld l v gs) (sym (kept-exactly c f g .1 k)) y)
+
+      with-first : (hs : List (List ℕ)) → Own f → AreHeld l v hs d → AreHeld l v (f ∷ hs) d
+      with-first hs own rest h m = ⊎-elim (λ (q : h ≡ f). subst Own (sym q) own) (λ r. rest h r) (List·Memᴰ·cases-cons m)
+
+      with-it : (ofPair l v (pieceOf f) && keeps (offered c f .answer)) ≡ true → AreHeld l v (f ∷ cond (clears l v c f) [] gs) d
+      with-it t =
           let x = pieceOf f in
           let p = and-left (ofPair l v x) (keeps (offered c f .answer)) t in
-          let k = kept-exactly c f g .0 (and-right (ofPair l v x) (keeps (offered c f .answer)) t) .1 in
-          let own : (holds (offered c f .collector) l v (x .heading .number) ≡ some (four x)) × (totalHeld (offered c f .collector) l v ≡ some (x .heading .total)) =
-          (k .bytes l v (x .heading .number) ∙ if-yes _ _ (and-yes _ p ∙ eq-eqb (x .heading .number .0) (x .heading .number .0) refl), k .total l v ∙ if-yes _ _ p) in
-          ⊎-elim
-          (λ (q : h ≡ f).
-          subst (λ (z : List ℕ). (holds (offered c f .collector) l v (pieceOf z .heading .number) ≡ some (four (pieceOf z))) × (totalHeld (offered c f .collector) l v ≡ some (pieceOf z .heading .total))) (sym q) own)
-          (λ r. still h r)
-          (List·Memᴰ·cases-cons m)
+          let w = kept-exactly c f g .0 (and-right (ofPair l v x) (keeps (offered c f .answer)) t) in
+          let same = eq-eqb (x .heading .number .0) (x .heading .number .0) refl in
+          by-test (startsOver c x)
+          (λ s.
+          let k = w .1 .1 s in
+          let own : Own f = (k .bytes l v (x .heading .number) ∙ if-yes _ _ p ∙ if-yes _ _ same, k .total l v ∙ if-yes _ _ p) in
+          subst (λ (hs : List (List ℕ)). AreHeld l v (f ∷ hs) d) (sym (if-yes _ _ (clears-own l v c f (w .0) p ∙ s)))
+          (with-first [] own (λ h m. absurd (List·Memᴰ·not-nil m))))
+          (λ s.
+          let k = w .1 .0 s in
+          let n = clears-own l v c f (w .0) p ∙ s in
+          let own : Own f = (k .bytes l v (x .heading .number) ∙ if-yes _ _ (and-yes _ p ∙ same), k .total l v ∙ if-yes _ _ p) in
+          subst (λ (hs : List (List ℕ)). AreHeld l v (f ∷ hs) d) (sym (if-no _ _ n)) (with-first gs own (still n)))
 
   release-are-held : (gs : List (List ℕ)) (c : Collector) (i j : ℕ) → Good c → AreHeld l v gs c → AreHeld l v (cond (eqb i l && eqb j v) [] gs) (released c i j .collector)
   unfolding AreHeld
@@ -395,16 +475,17 @@ module _ (c : Collector) (x z : Piece)
       or-no _ (ap not (te ∙ t)) ∙ and-yes _ m ∙ ap not (sf ∙ not-true _ (and-right (eqb (z .heading .number .0) (x .heading .number .0)) (not (sameBytes z x)) u)))
       (λ t. or-yes _ (ap not (te ∙ t)))
 
-  says-15 : contradict z x ≡ true → takenIn c x .answer ≡ 15
-  unfolding against
-  says-15 e =
-      sym (ap (λ (o : Offered). o .answer) (take-against c x its-held 15 (sym (stop 15 _ (goes-against e))) (λ (q : 15 ≡ 0). omega arith)))
+  says-15 : contradict z x ≡ true → whole (itsPlace c x) ≡ true → takenIn c x .answer ≡ 15
+  says-15 e w =
+      let a = whole-fifteen c x (and-yes _ its-held ∙ goes-against e) w in
+      sym (ap (λ (o : Offered). o .answer) (take-against c x its-held 15 (sym a) (λ (q : 15 ≡ 0). omega arith) (λ (q : 15 ≡ 3). omega arith)))
 
--- After any offers and releases from an empty collector, 15 comes exactly if the frame's heading is accepted and the frame contradicts a frame of
--- its pair that was offered and kept since the pair's place was taken.
+-- After any offers and releases from an empty collector, 15 comes exactly if the frame's heading is accepted, its pair is whole, and it contradicts a
+-- frame of the pair that was offered and kept since the pair's place was taken, or taken afresh.
 pub fifteen-exactly : (acts : List Act) (f : List ℕ)
     → (offered (run nothing acts) f .answer ≡ 15)
     ↔ ((accepted f ≡ true)
+    × (whole (itsPlace (run nothing acts) (pieceOf f)) ≡ true)
     × ((g : List ℕ) × List·Memᴰ g (keptSince (pieceOf f .heading .level) (pieceOf f .heading .version) nothing acts []) × (accepted g ≡ true) × (contradict (pieceOf g) (pieceOf f) ≡ true)))
 unfolding AreHeld
 fifteen-exactly acts f =
@@ -414,13 +495,15 @@ fifteen-exactly acts f =
     let v = x .heading .version in
     let gc = run-keeps-good acts nothing empty-good in (
       λ e.
-          let w = case-15 c f e in (
+          let r = and-both (contradicted c x) (whole (itsPlace c x)) (case-15 c f e) in
+          let w = r .0 in (
             taken-15 c f gc e,
+            r .1,
             by-place c x (keptSince l v nothing acts []) (run-held-by l v acts nothing [] empty-good (empty-held-by l v))
                 (and-left (itsPlace c x .held) (contradicts (itsPlace c x) x) w)
                 (and-right (itsPlace c x .held) (contradicts (itsPlace c x) x) w),
           ),
       λ w.
-          let y = run-are-held l v acts nothing [] empty-good (none-are-held l v) (w .1 .0) (w .1 .1) in
-          ap (λ (o : Offered). o .answer) (offered-taken c f gc (w .0)) ∙ says-15 c x (pieceOf (w .1 .0)) (y .0) (y .1) (w .1 .3),
+          let y = run-are-held l v acts nothing [] empty-good (none-are-held l v) (w .2 .0) (w .2 .1) in
+          ap (λ (o : Offered). o .answer) (offered-taken c f gc (w .0)) ∙ says-15 c x (pieceOf (w .2 .0)) (y .0) (y .1) (w .2 .3) (w .1),
     )

@@ -22,14 +22,14 @@ use Rattle.collector.specs.declared.Offered.{Offered}
 use Rattle.collector.specs.Whole.{passes}
 use Rattle.collector.specs.Collector.{nothing, pieceOf, takenIn, offered}
 use Rattle.order.specs.Held.{Four, offerAll, declares, declarations}
-use Rattle.order.specs.Given.{pieces, four, ofPair, ofNumber, came, Pair, Bounded, firstOf, given, totalGiven, isSome, full, joinedBy, declareCases, givenWith, dueCases, completeBy, completed}
+use Rattle.order.specs.Given.{pieces, four, ofPair, ofNumber, came, Pair, Bounded, orElse, firstOf, given, totalGiven, isSome, full, joinedBy, declareCases, givenWith, dueCases, completeBy, completed}
 use Rattle.order.proofs.Keeping.{empty-good}
 use Rattle.order.proofs.Declaring.{full-alike}
-use Rattle.order.proofs.Running.{Clear, Feed, orElse, some-inj, none-some, found-append, came-given, number-parts, mem-left, mem-right, answer-due}
+use Rattle.order.proofs.Running.{Clear, Feed, some-inj, none-some, found-append, came-given, number-parts, mem-left, mem-right, answer-due}
 use Rattle.order.proofs.Offering.{offered-taken, offered-refused, all-good, all-taken, pieces-yes, pieces-no, pieces-append, refused-some, feed, bounded-among, offer-on}
 use Rattle.laws.proofs.Below.{below-no}
 
-one-if : Bool → ℕ
+unfoldable pub one-if : Bool → ℕ
 one-if b = cond b 1 0
 
 -- ---- one frame more, at one key

@@ -11,7 +11,7 @@ use borrow.Author.Tests.{ltb-true, ltb-false, eqb-true, eqb-false, eq-eqb, ne-eq
 use Rattle.laws.specs.Scan.{all, indexOf}
 use Rattle.laws.specs.Refusals.{first}
 use Rattle.laws.proofs.Cases.{and-yes, and-no, and-left, and-right, or-yes}
-use Rattle.laws.proofs.Elements.{by-test, index-yes, index-no, all-cons, all-head, all-tail, all-at, all-set, all-map}
+use Rattle.laws.proofs.Elements.{by-test, index-yes, index-no, index-holds, all-cons, all-head, all-tail, all-at, all-set, all-map}
 use Rattle.frame.specs.Heading.{refusals}
 use Rattle.frame.proofs.Accepted.{Bounds, bounds}
 use Rattle.collector.specs.declared.Place.{Place}
@@ -19,12 +19,12 @@ use Rattle.collector.specs.declared.Collector.{Collector}
 use Rattle.collector.specs.declared.Piece.{Piece}
 use Rattle.collector.specs.declared.Offered.{Offered}
 use Rattle.collector.specs.Places.{blank, isPair, pairsApart, fair, shaped, stored, takenFor, freed}
-use Rattle.collector.specs.Collector.{good, nothing, indexOfPair, itsPlace, pieceOf, put, takenIn, kept, offered, released}
+use Rattle.collector.specs.Collector.{good, nothing, indexOfPair, itsPlace, pieceOf, put, takenIn, kept, begun, offered, released}
 use Rattle.collector.proofs.Calls.{offer-heading, offer-taken, release-18, release-0}
 use Rattle.collector.proofs.AllPlaces.{good-at, is-held, is-not-held}
 use Rattle.collector.proofs.Marks.{stored-shaped, taken-shaped, freed-shaped, stored-below, taken-below}
 use Rattle.order.specs.Held.{Good}
-use Rattle.order.proofs.Outcome.{Outcome, turned, joins, starts, finds-none, outcome, atPair, atFree, total-agrees}
+use Rattle.order.proofs.Outcome.{Outcome, turned, joins, begins, starts, finds-none, outcome, atPair, atFree, zero-total}
 
 module _ (x : Place) (xs : List Place) where
   good-ok : good (x ∷ xs) ≡ true → fair x ≡ true
@@ -139,7 +139,43 @@ pub kept-collector : (c : Collector) (i : ℕ) (p : Place) (x : Piece) → kept 
 unfolding kept
 kept-collector c i p x = refl
 
+pub begun-collector : (c : Collector) (i : ℕ) (x : Piece) → begun c i x .collector ≡ put c i (stored (takenFor x) x)
+unfolding begun
+begun-collector c i x = refl
+
+-- places of one pair are apart from the same places
+same-apart : (p q r : Place) → q .held ≡ p .held → q .level ≡ p .level → q .version ≡ p .version → (pairsApart q r ≡ pairsApart p r) × (pairsApart r q ≡ pairsApart r p)
+same-apart p q r eh el ev = (rw (eh, el, ev), rw (eh, el, ev))
+
+-- a place taken afresh for its pair
+afresh-pair : (p : Place) (x : Piece) → isPair (x .heading .level) (x .heading .version) p ≡ true
+    → (stored (takenFor x) x .held ≡ p .held) × (stored (takenFor x) x .level ≡ p .level) × (stored (takenFor x) x .version ≡ p .version)
+unfolding stored takenFor
+afresh-pair p x m =
+    let r = and-right (p .held) (eqb (p .level) (x .heading .level) && eqb (p .version) (x .heading .version)) m in (
+      sym (and-left (p .held) (eqb (p .level) (x .heading .level) && eqb (p .version) (x .heading .version)) m),
+      sym (eqb-true _ _ (and-left (eqb (p .level) (x .heading .level)) (eqb (p .version) (x .heading .version)) r)),
+      sym (eqb-true _ _ (and-right (eqb (p .level) (x .heading .level)) (eqb (p .version) (x .heading .version)) r)),
+    )
+
 module _ (c : Collector) (x : Piece) (g : Good c) (b : Bounds (x .heading)) where
+  begun-good : atPair c x < length (c .places) → Good (put c (atPair c x) (stored (takenFor x) x))
+  unfolding indexOfPair
+  begun-good h =
+      let p = itsPlace c x in
+      let q = stored (takenFor x) x in
+      let n = b .number-below in
+      let w = afresh-pair p x (index-holds (isPair (x .heading .level) (x .heading .version)) (c .places) blank (atPair c x) refl h) in
+      record {
+        count = length-set (c .places) (atPair c x) q ∙ g .count;
+        shape = all-set shaped (c .places) (atPair c x) q (g .shape) (stored-shaped (takenFor x) x ∙ taken-shaped x);
+        order =
+            good-same (c .places) (atPair c x) q h (g .order)
+            (stored-ok (takenFor x) x (subst (λ (t : ℕ). x .heading .number .0 < t) (sym (taken-total x)) n) ∙ taken-ok x b)
+            (λ r. same-apart p q r (w .0) (w .1) (w .2) .0)
+            (λ r. same-apart p q r (w .0) (w .1) (w .2) .1);
+      }
+
   pub joined-good : atPair c x < length (c .places) → itsPlace c x .total .0 ≡ x .heading .total .0 → Good (put c (atPair c x) (stored (itsPlace c x) x))
   unfolding indexOfPair
   joined-good h t =
@@ -177,10 +213,12 @@ module _ (c : Collector) (x : Piece) (g : Good c) (b : Bounds (x .heading)) wher
   taken-good = by-outcome (outcome c x)
     where
       by-outcome : Outcome c x → Good (takenIn c x .collector)
-      by-outcome (turned a h e n w) = subst (λ (o : Offered). Good (o .collector)) w g
+      by-outcome (turned a h e n m w) = subst (λ (o : Offered). Good (o .collector)) w g
       by-outcome (joins h e w) =
           subst (λ (o : Offered). Good (o .collector)) w
-          (subst Good (sym (kept-collector c (atPair c x) (itsPlace c x) x)) (joined-good h (total-agrees c x e)))
+          (subst Good (sym (kept-collector c (atPair c x) (itsPlace c x) x)) (joined-good h (zero-total (itsPlace c x) x e)))
+      by-outcome (begins h e w) =
+          subst (λ (o : Offered). Good (o .collector)) w (subst Good (sym (begun-collector c (atPair c x) x)) (begun-good h))
       by-outcome (starts h k w) =
           subst (λ (o : Offered). Good (o .collector)) w
           (subst Good (sym (kept-collector c (atFree c) (takenFor x) x)) (started-good h k))

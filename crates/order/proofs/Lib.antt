@@ -11,6 +11,10 @@ pub mod Copying
 pub mod Theorems
 pub mod Declared
 pub mod Repeats
+pub mod Again
 pub mod Staying
+pub mod Meeting
+pub mod Round
+pub mod Rounded
 pub mod Only
 pub mod Beyond

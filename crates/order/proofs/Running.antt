@@ -21,7 +21,7 @@ use Rattle.collector.specs.declared.Collector.{Collector}
 use Rattle.collector.specs.declared.Piece.{Piece}
 use Rattle.collector.specs.Collector.{nothing, takenIn}
 use Rattle.order.specs.Held.{Good, Four, heldPlace, holds, totalHeld, takeAll}
-use Rattle.order.specs.Given.{four, ofPair, ofNumber, same, came, Pair, pairAmong, firstOf, given, totalGiven, isSome, givenWith, declareCases, dueCases}
+use Rattle.order.specs.Given.{four, ofPair, ofNumber, same, came, Pair, pairAmong, orElse, firstOf, given, totalGiven, isSome, givenWith, declareCases, dueCases}
 use Rattle.order.proofs.Keeping.{empty-good}
 use Rattle.order.proofs.Stepping.{Stepped, Agrees}
 use Rattle.order.proofs.Room.{Within}
@@ -92,10 +92,6 @@ ready-rest qs [] rest c r = r
 ready-rest qs (x ∷ ps) rest c r = ready-rest qs ps rest (takenIn c x .collector) (ready-tail qs c x (ps ++ rest) r)
 
 -- ---- a run, seen at one key: `look` reads the collector there, `is` says which frames speak of it, and `val` what they say
-abbrev pub orElse : {B : Type 0} → Option B → Option B → Option B
-orElse none o = o
-orElse (some b) o = some b
-
 -- a frame that agrees with what is held may come before it or behind it
 mix : {B : Type 0} (k : Bool) (v : B) (o p : Option B) → (k ≡ true → (b : B) → o ≡ some b → b ≡ v) → orElse (cond k (some v) o) p ≡ orElse o (cond k (some v) p)
 mix false v o p a = refl

@@ -17,7 +17,7 @@ use Rattle.collector.specs.Places.{blank, isPair, shaped, stored, takenFor}
 use Rattle.collector.proofs.Marks.{taken-shaped, mark-none}
 use Rattle.collector.specs.Collector.{isFree, indexOfPair, itsPlace, put}
 use Rattle.order.specs.Held.{Four, fourAt, heldPlace, holdsIn, totalIn, holds, totalHeld}
-use Rattle.order.specs.Given.{four, ofPair, ofNumber}
+use Rattle.order.specs.Given.{four, ofPair, ofNumber, Afresh}
 use Rattle.order.proofs.Outcome.{atPair, atFree}
 use Rattle.order.proofs.HeldPlace.{held-place-found, held-place-missing, held-place-hit, held-place-new, held-place-miss, four-other, four-own}
 
@@ -84,7 +84,7 @@ unfolding stored
 stored-total p x = refl
 
 -- what a place holds after the store, number by number
-stored-fours : (p : Place) (x : Piece) (h : Number → Option Four) → shaped p ≡ true → x .heading .number .0 < 63
+pub stored-fours : (p : Place) (x : Piece) (h : Number → Option Four) → shaped p ≡ true → x .heading .number .0 < 63
     → ((m : Number) → (m .0 ≡ x .heading .number .0 → ⊥) → fourAt p m ≡ h m) → (m : Number) → fourAt (stored p x) m ≡ cond (eqb (x .heading .number .0) (m .0)) (some (four x)) (h m)
 stored-fours p x h a b w m =
     by-test (eqb (x .heading .number .0) (m .0))
@@ -110,11 +110,11 @@ module _ (c : Collector) (x : Piece) where
       (λ m ne. ap (λ (o : Option Place). holdsIn o m) (sym (held-place-found (x .heading .level) (x .heading .version) (c .places) h))))
 
   -- ---- the pair is not held
-  new-pair : (l v : ℕ) → isPair l v (stored (takenFor x) x) ≡ ofPair l v x
+  pub new-pair : (l v : ℕ) → isPair l v (stored (takenFor x) x) ≡ ofPair l v x
   unfolding stored takenFor
   new-pair l v = refl
 
-  taken-none : (m : Number) → fourAt (takenFor x) m ≡ none
+  pub taken-none : (m : Number) → fourAt (takenFor x) m ≡ none
   unfolding fourAt
   taken-none m = if-no _ _ (mark-none x m)
 
@@ -138,6 +138,37 @@ module _ (c : Collector) (x : Piece) where
       new-total
       (stored-fours (takenFor x) x (holds c (x .heading .level) (x .heading .version)) (taken-shaped x) n
       (λ m ne. taken-none m ∙ ap (λ (o : Option Place). holdsIn o m) (sym (held-place-missing (x .heading .level) (x .heading .version) (c .places) none-held))))
+
+  -- ---- the pair is held, and its place is taken afresh
+  pub begun-afresh : atPair c x < length (c .places) → x .heading .number .0 < 63 → Afresh c x (put c (atPair c x) (stored (takenFor x) x))
+  unfolding holds totalHeld indexOfPair
+  begun-afresh h n =
+      let q = stored (takenFor x) x in
+      let d = put c (atPair c x) q in
+      let mine : isPair (x .heading .level) (x .heading .version) (itsPlace c x) ≡ true = index-holds (isPair (x .heading .level) (x .heading .version)) (c .places) blank (atPair c x) refl h in
+      let hit = held-place-hit (x .heading .level) (x .heading .version) (c .places) (atPair c x) q refl h new-own in
+      let miss : (l v : ℕ) → ofPair l v x ≡ false → heldPlace l v (d .places) ≡ heldPlace l v (c .places) =
+      λ l v k. held-place-miss l v (c .places) (atPair c x) q h (pair-alike (itsPlace c x) x mine l v k) (new-pair l v ∙ k) in
+      record {
+        bytes = λ l v m.
+            by-test (ofPair l v x)
+            (λ e.
+            let el : x .heading .level ≡ l = eqb-true _ _ (and-left (eqb (x .heading .level) l) (eqb (x .heading .version) v) e) in
+            let ev : x .heading .version ≡ v = eqb-true _ _ (and-right (eqb (x .heading .level) l) (eqb (x .heading .version) v) e) in
+            ap₂ (λ (a b : ℕ). holds d a b m) (sym el) (sym ev)
+            ∙ ap (λ (o : Option Place). holdsIn o m) hit
+            ∙ stored-fours (takenFor x) x (λ k. none) (taken-shaped x) n (λ k ne. taken-none k) m
+            ∙ sym (if-yes _ (holds c l v m) e))
+            (λ e. ap (λ (o : Option Place). holdsIn o m) (miss l v e) ∙ sym (if-no _ (holds c l v m) e));
+        total = λ l v.
+            by-test (ofPair l v x)
+            (λ e.
+            let el : x .heading .level ≡ l = eqb-true _ _ (and-left (eqb (x .heading .level) l) (eqb (x .heading .version) v) e) in
+            let ev : x .heading .version ≡ v = eqb-true _ _ (and-right (eqb (x .heading .level) l) (eqb (x .heading .version) v) e) in
+            ap₂ (λ (a b : ℕ). totalHeld d a b) (sym el) (sym ev) ∙ ap totalIn hit ∙ ap some new-total ∙ sym (if-yes _ (totalHeld c l v) e))
+            (λ e. ap totalIn (miss l v e) ∙ sym (if-no _ (totalHeld c l v) e));
+        others = miss;
+      }
 
 -- ---- what was held agrees with the piece
 pub record Agrees (c : Collector) (x : Piece) : Type 0 where

@@ -25,7 +25,7 @@ use Rattle.collector.proofs.OnePlace.{new-number, same-frame}
 use Rattle.collector.proofs.Marks.{stored-shaped, taken-shaped}
 use Rattle.order.specs.Held.{Good, Four, bytesAt, fourAt, heldPlace, holdsIn, totalIn, holds, totalHeld}
 use Rattle.order.specs.Given.{four, Pair, pairAmong, isSome, declareCases}
-use Rattle.order.proofs.Outcome.{Outcome, turned, joins, starts, finds-none, outcome, atPair, atFree, total-agrees}
+use Rattle.order.proofs.Outcome.{Outcome, turned, joins, begins, starts, finds-none, outcome, atPair, atFree, zero-total}
 use Rattle.order.proofs.HeldPlace.{held-place-found, held-place-missing, held-place-hit, held-place-new}
 use Rattle.order.proofs.Keeping.{kept-collector, joined-good, started-good}
 use Rattle.order.proofs.Stepping.{Stepped, Agrees, again-stepped, held-stepped, new-stepped, stored-pair, stored-total, new-own, new-total}
@@ -45,7 +45,7 @@ kept-answer : (c : Collector) (i : ℕ) (p : Place) (x : Piece) → kept c i p x
 unfolding kept
 kept-answer c i p x = refl
 
-same-bytes : (p : Place) (x : Piece) → bytesAt p (x .heading .number) ≡ four x → sameFour p x ≡ true
+pub same-bytes : (p : Place) (x : Piece) → bytesAt p (x .heading .number) ≡ four x → sameFour p x ≡ true
 same-bytes p x b =
     and-yes _ (eq-eqb _ _ (ap (λ (w : Four). w .0) b))
     ∙ and-yes _ (eq-eqb _ _ (ap (λ (w : Four). w .1) b))
@@ -99,6 +99,13 @@ module _ (qs : List Pair) (few : length qs ≤ 4) (c : Collector) (x : Piece) (g
       new-number (itsPlace c x) x (ap (λ (t : Total). t .0) its-total) e,
     )
 
+    -- nothing that agrees begins again
+    never-begins : against (itsPlace c x) x ≡ 3 → ⊥
+    never-begins e =
+        by-test (marked (itsPlace c x) (x .heading .number))
+        (λ t. let z : 2 ≡ 3 = sym (was-there t .1) ∙ e in omega arith)
+        (λ t. let z : 0 ≡ 3 = sym (was-missing t .1) ∙ e in omega arith)
+
     turned-took : (k : ℕ) → k ≡ against (itsPlace c x) x → (k ≡ 0 → ⊥) → record { answer = k; collector = c } ≡ takenIn c x → Took qs c x
     turned-took k e n o =
         by-test (marked (itsPlace c x) (x .heading .number))
@@ -120,7 +127,7 @@ module _ (qs : List Pair) (few : length qs ≤ 4) (c : Collector) (x : Piece) (g
         let p = itsPlace c x in
         let q = stored p x in
         let d : put c (atPair c x) q ≡ takenIn c x .collector = sym (kept-collector c (atPair c x) p x) ∙ ap (λ (r : Offered). r .collector) o in
-        let t = total-agrees c x e in
+        let t = zero-total (itsPlace c x) x e in
         let n = b .number-below in
         let u = b .total-high in
         let sh : shaped p ≡ true = all-at shaped (c .places) (atPair c x) blank (g .shape) h in
@@ -184,7 +191,8 @@ module _ (qs : List Pair) (few : length qs ≤ 4) (c : Collector) (x : Piece) (g
   took = by-outcome (outcome c x)
     where
       by-outcome : Outcome c x → Took qs c x
-      by-outcome (turned k h e n o) = turned-took h k e n o
+      by-outcome (turned k h e n m o) = turned-took h k e n o
       by-outcome (joins h e o) = joins-took h e o
+      by-outcome (begins h e o) = absurd (never-begins h e)
       by-outcome (starts h k o) = starts-took h k o
       by-outcome (finds-none h k o) = let z = room h in absurd (omega arith)

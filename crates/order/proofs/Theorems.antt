@@ -31,7 +31,7 @@ use Rattle.collector.proofs.AllPlaces.{is-held, is-not-held, some-free}
 use Rattle.order.specs.Held.{Good, Four, holds, totalHeld, offerAll, Act, offering, releasing, run}
 use Rattle.order.specs.Given.{pieces, four, ofPair, ofNumber, Pair, Bounded, Rearranged, firstOf, Said, given, totalGiven, declareCases, dueCases, due}
 use Rattle.order.proofs.Keeping.{kept-collector, empty-good, offer-good, release-good}
-use Rattle.order.proofs.Outcome.{Outcome, turned, joins, starts, finds-none, outcome, atPair, atFree}
+use Rattle.order.proofs.Outcome.{Outcome, turned, joins, begins, starts, finds-none, outcome, atPair, atFree}
 use Rattle.order.proofs.Running.{Feed, some-inj, none-some, held-given, total-given, answer-due, number-parts}
 use Rattle.order.proofs.Offering.{offered-taken, offered-refused, all-good, all-taken, pieces-yes, pieces-append, pieces-of, of-pieces, accepted-none, refused-some, feed, moved, back, bounded-among}
 use Rattle.order.proofs.Copying.{same-copies}
@@ -67,7 +67,7 @@ module _ {B : Type 0} (is : Piece → Bool) (val : Piece → B) where
       (List·Memᴰ·cases-cons i))
 
   -- what frames say of a key is what every frame of that key says, where they agree
-  said-exact : (fs : List (List ℕ)) → ((x y : Piece) → List·Memᴰ x (pieces fs) → List·Memᴰ y (pieces fs) → is x ≡ true → is y ≡ true → val x ≡ val y)
+  pub said-exact : (fs : List (List ℕ)) → ((x y : Piece) → List·Memᴰ x (pieces fs) → List·Memᴰ y (pieces fs) → is x ≡ true → is y ≡ true → val x ≡ val y)
       → (b : B) → (firstOf is val (pieces fs) ≡ some b) ↔ Said is val fs b
   said-exact fs one b = (
     λ e.
@@ -80,6 +80,12 @@ module _ {B : Type 0} (is : Piece → Bool) (val : Piece → B) where
         r .3 ∙ ap some (one (r .0) (pieceOf (s .0)) (r .1) i (r .2) (s .3) ∙ s .4),
   )
 
+-- two frames of one pair and number: the one has the pair and number of the other
+pub own-key : (l v : ℕ) (n : Number) (x y : Piece) → ofNumber l v n x ≡ true → ofNumber l v n y ≡ true → ofNumber (y .heading .level) (y .heading .version) (y .heading .number) x ≡ true
+own-key l v n x y s t =
+    let k = number-parts l v n y t in
+    ap₂ (λ (i j : ℕ). ofNumber i j (y .heading .number) x) (k .0) (k .1) ∙ ap (λ (i : ℕ). ofNumber l v (record { 0 = i }) x) (k .2) ∙ s
+
 -- Four bytes are held for a pair's number exactly where some frame given with an accepted heading has that pair, that number and those bytes.
 pub holdings-exact : (qs : List Pair) (fs : List (List ℕ)) → Bounded qs fs → (l v : ℕ) (n : Number) (b : Four)
     → (holds (offerAll nothing fs) l v n ≡ some b) ↔ Said (ofNumber l v n) four fs b
@@ -87,11 +93,6 @@ holdings-exact qs fs r l v n b =
     let w = said-exact (ofNumber l v n) four fs (λ x y i j s t. feed qs fs r .clear x y i j .bytes (own-key l v n x y s t)) b in
     let h = holdings qs fs r l v n .0 in
     (λ e. w .0 (sym h ∙ e), λ s. h ∙ w .1 s)
-  where
-    own-key : (l v : ℕ) (n : Number) (x y : Piece) → ofNumber l v n x ≡ true → ofNumber l v n y ≡ true → ofNumber (y .heading .level) (y .heading .version) (y .heading .number) x ≡ true
-    own-key l v n x y s t =
-        let k = number-parts l v n y t in
-        ap₂ (λ (i j : ℕ). ofNumber i j (y .heading .number) x) (k .0) (k .1) ∙ ap (λ (i : ℕ). ofNumber l v (record { 0 = i }) x) (k .2) ∙ s
 
 -- A total is held for a pair exactly where some frame given with an accepted heading has that pair and that total.
 pub totals-exact : (qs : List Pair) (fs : List (List ℕ)) → Bounded qs fs → (l v : ℕ) (t : Total)
@@ -148,6 +149,12 @@ never-refused qs before f rest r =
       λ z. no-such before f 28 refl (λ (q : 28 ≡ 0). omega arith) (sym e ∙ z),
     )
 
+-- And nothing begins again: 3 never comes.
+pub never-begun : (qs : List Pair) (before : List (List ℕ)) (f : List ℕ) (rest : List (List ℕ)) → Bounded qs (before ++ (f ∷ rest))
+    → offered (offerAll nothing before) f .answer ≡ 3 → ⊥
+unfolding refusals dueCases declareCases among
+never-begun qs before f rest r z = no-such before f 3 refl (λ (q : 3 ≡ 0). omega arith) (sym (answers qs before f rest r) ∙ z)
+
 -- ---- any order
 option-ext : {A : Type 0} (o u : Option A) → ((b : A) → o ≡ some b → u ≡ some b) → ((b : A) → u ≡ some b → o ≡ some b) → o ≡ u
 option-ext none none f g = refl
@@ -200,7 +207,7 @@ bad-record-alone c = (
 )
 
 -- ---- refusals
--- A refusal leaves everything as it was: whatever the record, a frame answered other than 0, 1 or 17 leaves the collector it was offered to,
+-- A refusal leaves everything as it was: whatever the record, a frame answered other than 0, 1, 3 or 17 leaves the collector it was offered to,
 -- a refused release the collector it was asked of, and a refused copy the memory lent, with size 0.
 pub refusal-keeps : (c : Collector)
     → ((f : List ℕ) → keeps (offered c f .answer) ≡ false → offered c f .collector ≡ c)
@@ -280,7 +287,8 @@ module _ (c : Collector) (g : Good c) (l v : ℕ) (held : placeOf l v (c .places
       count = gd .count ∙ sym (g .count)
 
       again : Outcome d x → offered d f .collector ≡ put c i (stored (takenFor x) x)
-      again (turned a h q n w) = absurd (not-there h)
+      again (turned a h q n m w) = absurd (not-there h)
+      again (begins h q w) = absurd (not-there h)
       again (joins h q w) = absurd (not-there h)
       again (finds-none h k w) = let t = there in absurd (omega (arith, free-there, count))
       again (starts h k w) =

@@ -46,13 +46,43 @@ pub due-spoiled : due (frame 2 0xD1 0x24 0xFF 0xFE ∷ zeroth ∷ []) second ≡
 unfolding below first at bitsOf spread reduce remainder timesByte taken takenAll crc16 fixed reserved outside refusals headingFields headingOf accepted packetSize sized checked filled passes all pieces firstOf same came full joinedTo declareCases dueCases due
 due-spoiled = refl
 
--- the same number with other bytes
-pub contradicted : offered (offerAll nothing (zeroth ∷ [])) (frame 0 0xA8 0x06 0x01 0x03) .answer ≡ 15
+-- the same number with other bytes: a pair with a number missing begins again, and a whole one stays
+pub missing-begins : offered (offerAll nothing (zeroth ∷ [])) (frame 0 0xA8 0x06 0x01 0x03) .answer ≡ 3
 unfolding all below indexOf first at bitsOf spread reduce remainder timesByte taken takenAll crc16 fixed reserved outside refusals headingFields packetSize sized checked filled passes astray marksBelow complete fair contradicts again takenFor stored whole spoiled good indexOfPair indexOfFree spot after takeCases keeps offerCases offered offerAll
-contradicted = refl
+missing-begins = refl
+
+pub whole-contradicted : offered (offerAll nothing (zeroth ∷ second ∷ third ∷ [])) (frame 0 0xA8 0x06 0x01 0x03) .answer ≡ 15
+unfolding all below indexOf first at bitsOf spread reduce remainder timesByte taken takenAll crc16 fixed reserved outside refusals headingFields packetSize sized checked filled passes astray marksBelow complete fair contradicts again takenFor stored whole spoiled good indexOfPair indexOfFree spot after takeCases keeps offerCases offered offerAll
+whole-contradicted = refl
 
 -- the packet's eight bytes, and the rest of what was lent
 pub copied-out : copied (offerAll nothing (third ∷ zeroth ∷ second ∷ [])) 5 3 (7 ∷ 7 ∷ 7 ∷ 7 ∷ 7 ∷ 7 ∷ 7 ∷ 7 ∷ 9 ∷ [])
     ≡ 0xA8 ∷ 0x06 ∷ 0x01 ∷ 0x02 ∷ 0x03 ∷ 0x04 ∷ 0x05 ∷ 0x06 ∷ 9 ∷ []
 unfolding all below indexOf first at bitsOf spread reduce remainder timesByte taken takenAll crc16 fixed reserved outside refusals headingFields packetSize sized checked filled passes astray marksBelow complete fair contradicts again takenFor stored whole spoiled good indexOfPair indexOfFree spot after takeCases keeps offerCases offered offerAll copyCases copyBytes copiedCases copied
 copied-out = refl
+
+-- ---- the version comes round again (paper 02, K5)
+
+-- the message above but for its middle frame, which differs by the check's own polynomial
+abbrev pub alike : List ℕ
+alike = frame 1 0x03 0x05 0x15 0x27
+
+-- held as an old half, it makes another whole packet with the message's other frames, and stays: twice through is not enough without the bound
+pub bound-needed : copied (offerAll nothing (alike ∷ zeroth ∷ third ∷ second ∷ zeroth ∷ third ∷ second ∷ [])) 5 3 (7 ∷ 7 ∷ 7 ∷ 7 ∷ 7 ∷ 7 ∷ 7 ∷ 7 ∷ [])
+    ≡ 0xA8 ∷ 0x06 ∷ 0x01 ∷ 0x02 ∷ 0x03 ∷ 0x05 ∷ 0x15 ∷ 0x27 ∷ []
+unfolding all below indexOf first at bitsOf spread reduce remainder timesByte taken takenAll crc16 fixed reserved outside refusals headingFields packetSize sized checked filled passes astray marksBelow complete fair contradicts again takenFor stored whole spoiled good indexOfPair indexOfFree spot after takeCases keeps offerCases offered offerAll copyCases copyBytes copiedCases copied
+bound-needed = refl
+
+-- another old half: once through it gives way too late, and a copy finds nothing whole
+abbrev pub unlike : List ℕ
+unlike = frame 1 0 0 0 0
+
+pub once-is-short : copied (offerAll nothing (unlike ∷ zeroth ∷ third ∷ second ∷ [])) 5 3 (7 ∷ 7 ∷ 7 ∷ 7 ∷ 7 ∷ 7 ∷ 7 ∷ 7 ∷ []) ≡ 7 ∷ 7 ∷ 7 ∷ 7 ∷ 7 ∷ 7 ∷ 7 ∷ 7 ∷ []
+unfolding all below indexOf first at bitsOf spread reduce remainder timesByte taken takenAll crc16 fixed reserved outside refusals headingFields packetSize sized checked filled passes astray marksBelow complete fair contradicts again takenFor stored whole spoiled good indexOfPair indexOfFree spot after takeCases keeps offerCases offered offerAll copyCases copyBytes copiedCases copied
+once-is-short = refl
+
+-- twice through it is the message
+pub twice-is-enough : copied (offerAll nothing (unlike ∷ zeroth ∷ third ∷ second ∷ zeroth ∷ third ∷ second ∷ [])) 5 3 (7 ∷ 7 ∷ 7 ∷ 7 ∷ 7 ∷ 7 ∷ 7 ∷ 7 ∷ [])
+    ≡ 0xA8 ∷ 0x06 ∷ 0x01 ∷ 0x02 ∷ 0x03 ∷ 0x04 ∷ 0x05 ∷ 0x06 ∷ []
+unfolding all below indexOf first at bitsOf spread reduce remainder timesByte taken takenAll crc16 fixed reserved outside refusals headingFields packetSize sized checked filled passes astray marksBelow complete fair contradicts again takenFor stored whole spoiled good indexOfPair indexOfFree spot after takeCases keeps offerCases offered offerAll copyCases copyBytes copiedCases copied
+twice-is-enough = refl

@@ -16,7 +16,7 @@ use Rattle.collector.specs.Whole.{passes}
 use Rattle.collector.specs.declared.Collector.{Collector}
 use Rattle.collector.specs.Places.{marked}
 use Rattle.collector.specs.Collector.{pieceOf, keeps, offered, released}
-use Rattle.order.specs.Held.{Four, placeAt, bytesAt, holds, totalHeld, Act, offering, releasing}
+use Rattle.order.specs.Held.{Four, placeAt, bytesAt, heldPlace, holds, totalHeld, startsOver, clears, Act, offering, releasing}
 
 -- ---- frames with accepted headings
 
@@ -90,6 +90,11 @@ firstOf is val (x ∷ xs) = cond (is x) (some (val x)) (firstOf is val xs)
 -- a frame of the list with an accepted heading that passes the test says b
 abbrev pub Said : {B : Type 0} → (Piece → Bool) → (Piece → B) → List (List ℕ) → B → Type 0
 Said is val fs b = (f : List ℕ) × List·Memᴰ f fs × (accepted f ≡ true) × (is (pieceOf f) ≡ true) × (val (pieceOf f) ≡ b)
+
+-- what the one says, or else what the other says; of no paper
+abbrev pub orElse : {B : Type 0} → Option B → Option B → Option B
+orElse none o = o
+orElse (some b) o = some b
 
 -- the four bytes of a pair's number
 abbrev pub given : List Piece → ℕ → ℕ → Number → Option Four
@@ -180,9 +185,21 @@ pub record Added (c : Collector) (x : Piece) (d : Collector) : Type 0 where
   pub bytes : (l v : ℕ) (n : Number) → holds d l v n ≡ cond (ofNumber l v n x) (some (four x)) (holds c l v n)
   pub total : (l v : ℕ) → totalHeld d l v ≡ cond (ofPair l v x) (some (x .heading .total)) (totalHeld c l v)
 
--- the frames of a pair that were offered and kept since its place was taken, behind those that were before: a release of the pair begins anew
+-- the frame's pair holds the frame and nothing else: its four bytes at its number, its total; and every other pair is as it was (02, K5)
+pub record Afresh (c : Collector) (x : Piece) (d : Collector) : Type 0 where
+  pub bytes : (l v : ℕ) (n : Number)
+      → holds d l v n ≡ cond (ofPair l v x) (cond (eqb (x .heading .number .0) (n .0)) (some (four x)) none) (holds c l v n)
+  pub total : (l v : ℕ) → totalHeld d l v ≡ cond (ofPair l v x) (some (x .heading .total)) (totalHeld c l v)
+  pub others : (l v : ℕ) → ofPair l v x ≡ false → heldPlace l v (d .places) ≡ heldPlace l v (c .places)
+
+-- a frame was kept: beside what was held; or, where it starts over, in place of what was held for its pair
+abbrev pub Kept : Collector → Piece → Collector → Type 0
+Kept c x d = (startsOver c x ≡ false → Added c x d) × (startsOver c x ≡ true → Afresh c x d)
+
+-- the frames of a pair that were offered and kept since its place was taken, behind those that were before: a release of the pair begins
+-- anew, and so does a frame that clears its place
 unfoldable pub keptSince : ℕ → ℕ → Collector → List Act → List (List ℕ) → List (List ℕ)
 keptSince l v c [] gs = gs
 keptSince l v c (offering f ∷ acts) gs =
-    keptSince l v (offered c f .collector) acts (cond (ofPair l v (pieceOf f) && keeps (offered c f .answer)) (f ∷ gs) gs)
+    keptSince l v (offered c f .collector) acts (cond (ofPair l v (pieceOf f) && keeps (offered c f .answer)) (f ∷ cond (clears l v c f) [] gs) gs)
 keptSince l v c (releasing i j ∷ acts) gs = keptSince l v (released c i j .collector) acts (cond (eqb i l && eqb j v) [] gs)

@@ -1,6 +1,6 @@
 -- What a collector holds, by pair and number, and what becomes of it in a run.
 use mathlib.Core.Path.{_≡_}
-use mathlib.Core.Bool.{Bool, true, cond, _&&_, _||_}
+use mathlib.Core.Bool.{Bool, true, cond, not, _&&_, _||_}
 use mathlib.Core.List.{List, [], _∷_}
 use mathlib.Core.Option.{Option, none, some}
 use Prim.Native.Nat.{ℕ, _+_, _*_}
@@ -13,8 +13,9 @@ use Rattle.collector.specs.declared.Collector.{Collector}
 use Rattle.collector.specs.declared.Piece.{Piece}
 use Rattle.collector.specs.declared.Offered.{Offered}
 use Rattle.laws.specs.Scan.{all}
-use Rattle.collector.specs.Places.{blank, isPair, marked, shaped}
-use Rattle.collector.specs.Collector.{good, pieceOf, takenIn, offered, released}
+use Rattle.frame.specs.Heading.{accepted}
+use Rattle.collector.specs.Places.{blank, isPair, marked, shaped, whole}
+use Rattle.collector.specs.Collector.{good, itsPlace, contradicted, pieceOf, takenIn, offered, released}
 
 -- a record as the types give it, and that 28 lets by
 pub record Good (c : Collector) : Type 0 where
@@ -62,10 +63,10 @@ holds c l v n = holdsIn (heldPlace l v (c .places)) n
 unfoldable pub totalHeld : Collector → ℕ → ℕ → Option Total
 totalHeld c l v = totalIn (heldPlace l v (c .places))
 
--- what the one holds the other holds too: the same four bytes for a pair's number, and the same total for a pair
-pub record Stays (c d : Collector) : Type 0 where
-  pub bytes : (l v : ℕ) (n : Number) (b : Four) → holds c l v n ≡ some b → holds d l v n ≡ some b
-  pub total : (l v : ℕ) (t : Total) → totalHeld c l v ≡ some t → totalHeld d l v ≡ some t
+-- what the one holds for a pair the other holds too: the same four bytes for a number, and the same total
+pub record Stays (l v : ℕ) (c d : Collector) : Type 0 where
+  pub bytes : (n : Number) (b : Four) → holds c l v n ≡ some b → holds d l v n ≡ some b
+  pub total : (t : Total) → totalHeld c l v ≡ some t → totalHeld d l v ≡ some t
 
 -- the frames offered one after the other
 unfoldable pub offerAll : Collector → List (List ℕ) → Collector
@@ -76,6 +77,20 @@ offerAll c (f ∷ fs) = offerAll (offered c f .collector) fs
 unfoldable pub takeAll : Collector → List Piece → Collector
 takeAll c [] = c
 takeAll c (x ∷ xs) = takeAll (takenIn c x .collector) xs
+
+-- the frame contradicts what is held for its pair, which is not whole (02, K5)
+abbrev pub startsOver : Collector → Piece → Bool
+startsOver c x = contradicted c x && not (whole (itsPlace c x))
+
+-- a frame of this pair with an accepted heading clears its place (02, K5)
+unfoldable pub clears : ℕ → ℕ → Collector → List ℕ → Bool
+clears l v c f =
+    (eqb (pieceOf f .heading .level) l && eqb (pieceOf f .heading .version) v) && (accepted f && startsOver c (pieceOf f))
+
+-- no frame of the run does
+unfoldable pub uncleared : ℕ → ℕ → Collector → List (List ℕ) → Bool
+uncleared l v c [] = true
+uncleared l v c (f ∷ fs) = not (clears l v c f) && uncleared l v (offered c f .collector) fs
 
 -- offers and releases, one after the other
 pub data Act : Type 0 where

@@ -1,3 +1,4 @@
 pub mod Held
 pub mod Given
+pub mod Rounds
 pub mod Examples

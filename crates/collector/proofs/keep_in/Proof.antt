@@ -1,10 +1,10 @@
 -- `collector::keep_in` meets its contract. Assumes nothing.
 use mathlib.Core.Path.{ap, ap₂, _∙_}
 use Prim.Native.Nat.{ℕ}
-use lib.ListN.{set}
+use Rattle.collector.specs.declared.Collector.{Collector}
 use Rattle.collector.specs.declared.Place.{Place}
 use Rattle.collector.specs.Places.{state}
-use Rattle.collector.specs.Collector.{kept}
+use Rattle.collector.specs.Collector.{put, kept}
 use borrow.Author.Needs.{needs}
 use Rattle.collector.proofs.keep_in.Statement.{statement}
 use Rattle.collector.proofs.keep_in.Tie as tie
@@ -12,11 +12,8 @@ use Rattle.collector.proofs.keep_in.Tie as tie
 store-requires : tie.Need-store-requires
 store-requires c κs = search needs
 
-mul-q : tie.Need-mul-q
-mul-q c = search needs
-
-element-set-from-q : tie.Need-element-set-from-q
-element-set-from-q c = search needs
+put-place-requires : tie.Need-put-place-requires
+put-place-requires c κs = search needs
 
 state-of-requires : tie.Need-state-of-requires
 state-of-requires c κs = search needs
@@ -24,8 +21,9 @@ state-of-requires c κs = search needs
 returns : tie.Need-returns
 unfolding kept
 returns c =
-    ap₂ (λ (a : ℕ) (q : Place). record { answer = a; collector = record { places = set (c .before .before .args .c .places) (c .before .before .args .i) q } }) (c .state-of .ensures ∙ ap state (c .before .store .ensures)) (c .before .store .ensures)
+    let a = c .before .before .before .args in
+    let e = c .before .before .store .ensures in
+    ap₂ (λ (n : ℕ) (d : Collector). record { answer = n; collector = d }) (c .state-of .ensures ∙ ap state e) (c .before .put-place .ensures ∙ ap (λ (q : Place). put (a .c) (a .i) q) e)
 
 pub keep-in-spec : {M : Type 1} → statement M
-keep-in-spec =
-    tie.close (tie.spec store-requires mul-q element-set-from-q state-of-requires returns)
+keep-in-spec = tie.close (tie.spec store-requires put-place-requires state-of-requires returns)

@@ -5,6 +5,7 @@ use native.Mathlib.Omega.{arith}
 use borrow.Author.Tests.{not-true, not-false}
 use lib.ListN.{length, getD}
 use Rattle.laws.proofs.Elements.{length-mapped}
+use Rattle.collector.specs.declared.Collector.{Collector}
 use Rattle.collector.specs.declared.Place.{Place}
 use Rattle.collector.specs.Places.{freed, blank}
 use Rattle.collector.proofs.Calls.{release-28, release-18, release-0}
@@ -32,20 +33,17 @@ element-copy-out-p c = search needs
 make-free-requires : tie.Need-make-free-requires
 make-free-requires c κs = search needs
 
-mul-t12 : tie.Need-mul-t12
-mul-t12 c = search needs
-
-element-set-from-c : tie.Need-element-set-from-c
-element-set-from-c c = search needs
+put-place-requires : tie.Need-put-place-requires
+put-place-requires c κs = search needs
 
 returns-2 : tie.Need-returns-2
 returns-2 c =
-    let d = c .before .before .before .before .before .before .args .t1 in
+    let d = c .before .before .before .before .before .before .before .args .t1 in
     let n : length (d .places) ≡ 4 = search (needs, length-mapped) in
-    let e = c .before .before .before .index-of .ensures in
-    ap (λ (q : Place). record { answer = 0; collector = put d (c .before .before .before .index-of .result) q }) (c .make-free .ensures)
+    let e = c .before .before .before .before .index-of .ensures in
+    ap (λ (r : Collector). record { answer = 0; collector = r }) (c .put-place .ensures ∙ ap (λ (q : Place). put d (c .before .before .before .before .index-of .result) q) (c .before .make-free .ensures))
     ∙ ap (λ (k : ℕ). record { answer = 0; collector = put d k (freed (getD (d .places) k blank)) }) e
-    ∙ release-0 d _ _ (sym (c .before .before .before .before .before .is-good .ensures) ∙ not-false _ (c .before .before .before .before .if1 .left)) (is-held (d .places) _ _ (omega (arith, e, c .before .before .if2 .taken)))
+    ∙ release-0 d _ _ (sym (c .before .before .before .before .before .before .is-good .ensures) ∙ not-false _ (c .before .before .before .before .before .if1 .left)) (is-held (d .places) _ _ (omega (arith, e, c .before .before .before .if2 .taken)))
 
 returns-3 : tie.Need-returns-3
 returns-3 c =
@@ -63,7 +61,6 @@ release-spec =
     mul-p
     element-copy-out-p
     make-free-requires
-    mul-t12
-    element-set-from-c
+    put-place-requires
     returns-2
     returns-3)

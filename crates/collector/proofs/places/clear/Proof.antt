@@ -1,0 +1,10 @@
+-- `collector::places::clear` meets its contract. Assumes nothing.
+use mathlib.Core.Path.{refl}
+use Rattle.collector.proofs.places.clear.Statement.{statement}
+use Rattle.collector.proofs.places.clear.Tie as tie
+
+returns : tie.Need-returns
+returns c = refl
+
+pub clear-spec : {M : Type 1} → statement M
+clear-spec = tie.close (tie.spec returns)
