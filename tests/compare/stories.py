@@ -12,8 +12,8 @@ from model import story
 
 from . import packets, records, smaller
 
+HOLD = bytes.fromhex("a84d0005ff") + bytes(4) + bytes(6) + bytes(64)  # a packet of type 21, right in itself
 ANSWERS = {"tell": (0, 10, 20, 25, 26, 27, 30, 31, 32), "join": (0, 10, 33)}
-GIRL = "The wave came over the wall; then the water went a long way out.".encode()
 
 
 def text(rng, size):
@@ -69,13 +69,24 @@ def rooms(rng, told):
     return rng.choice((2300, len(told), len(told), len(told) - 1 if told else 0, 0))
 
 
-def joins(rng, told, given):
-    """The packets in the order told, shuffled, one twice, one missing, one of another story, one damaged, ten; rooms that just fit and don't."""
-    some = list(story.cut(told))
+def foreign(rng, args):
+    """The parts of the same text under another message number: one of its first 31 digits is another, or it begins later."""
+    kind, digits, *rest = args
+    other = digits[:]
+    k = rng.randrange(31)
+    other[k] = (other[k] + rng.randrange(1, 10)) % 10
+    number = (story.four(digits) + rng.choice((1, 2, 9, 5000))) % 9991
+    later = digits[:31] + [int(d) for d in "%04d" % number]
+    return list(story.cut(story.tell(kind, rng.choice((other, later)), *rest, 2300)[2]))
+
+
+def joins(rng, told, args):
+    """The packets shuffled; one twice, one missing, one of another story, one of another type, one damaged, ten; rooms that just fit and don't."""
+    given, some = args[-1], list(story.cut(told))
     mixed = some[:]
     rng.shuffle(mixed)
     yield records.joining(b"".join(mixed), rng.choice((len(given), 1400, max(len(given) - 1, 0))))
-    what = rng.randrange(8)
+    what = rng.randrange(10)
     if what == 0:
         mixed.append(rng.choice(some))
     elif what == 1:
@@ -86,6 +97,11 @@ def joins(rng, told, given):
         mixed.append(b"".join(some)[: rng.randrange(1, 60)])
     elif what == 4:
         mixed = (some * 10)[:10]
+    elif what == 5:
+        k = rng.randrange(len(some))
+        mixed = [*some[:k], foreign(rng, args)[k], *some[k + 1 :]]
+    elif what == 6:
+        mixed[rng.randrange(len(mixed))] = HOLD
     else:
         damaged = bytearray(mixed[rng.randrange(len(mixed))])
         n = damaged[2]
@@ -102,7 +118,7 @@ def stories(seed):
     told = story.tell(*given, 2300)
     yield records.telling(*given, rooms(rng, told[2]))
     if told[0] == 0:
-        yield from joins(rng, told[2], given[-1])
+        yield from joins(rng, told[2], given)
 
 
 def count(seen, data):
