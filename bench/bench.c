@@ -20,6 +20,7 @@ struct sent {
     size_t frames;
 };
 struct sent radio_on_air(const uint8_t *packet, size_t n, uint8_t level, uint8_t version, uint8_t *out, size_t room);
+struct plain_decided radio_decide(struct plain_pair state, const double *symbol, size_t n);
 
 /* The little of the C library that is used; a cross compiler may come without its headers. */
 struct timespec {
@@ -251,6 +252,45 @@ static void refusals_agree(void)
         differ("an output of 319", 0);
 }
 
+/* Symbols: whole samples of any size or small ones, a row of 32 numbers each; now and then what is no sample, a state that is none, another count. */
+enum { SYMBOLS = 4096, NUMBERS = 32 };
+static double symbols[SYMBOLS][NUMBERS];
+static void make_symbols(void)
+{
+    for (size_t i = 0; i < SYMBOLS; i++)
+        for (size_t k = 0; k < NUMBERS; k++)
+            symbols[i][k] = i % 4 == 0 ? (double)chance(5) - 2 : (double)chance(65536) - 32768;
+}
+
+static int same_double(double a, double b)
+{
+    return (a != a && b != b) || memcmp(&a, &b, sizeof a) == 0;
+}
+
+static void decided_alike(struct plain_pair state, const double *symbol, size_t n, size_t place)
+{
+    struct plain_decided a = radio_decide(state, symbol, n), b = plain_decide(state, symbol, n);
+    if (a.answer != b.answer || a.verdict != b.verdict || !same_double(a.product, b.product) || !same_double(a.state.inphase, b.state.inphase) || !same_double(a.state.quadrature, b.state.quadrature))
+        differ("a symbol", place);
+}
+
+static void symbols_agree(void)
+{
+    static const double odd[12] = {0.5, -0.5, 32768, -32769, 524280, -524280, 524281, -524281, 9007199254740992.0, 1e300, __builtin_inf(), __builtin_nan("")};
+    struct plain_pair state = {0, 0};
+    for (size_t i = 0; i < SYMBOLS; i++) {
+        double *x = &symbols[i][chance(NUMBERS)], kept = *x;
+        struct plain_pair other = {odd[i % 12], odd[i / 12 % 12]};
+        decided_alike(state, symbols[i], NUMBERS, i);
+        decided_alike(state, symbols[i], chance(33), i);
+        decided_alike(other, symbols[i], NUMBERS, i);
+        *x = odd[i % 12];
+        decided_alike(state, symbols[i], NUMBERS, i);
+        *x = kept;
+        state = plain_decide(state, symbols[i], NUMBERS).state;
+    }
+}
+
 static double now(void)
 {
     struct timespec t;
@@ -321,6 +361,39 @@ static void measure(const char *what, work_fn *work, size_t a, size_t b, double 
     printf("| %-25s | %8.2f | %8.2f | %8.2f | %8.2f | %6.2f | %6.2f | %6.2f | %6.2f |\n", what, m[0], m[1], m[2], m[3], m[0] / m[1], m[0] / m[2], m[0] / m[3], m[0] * 1e6 / units);
 }
 
+/* Every symbol behind the one before it, so many times over; `way` 0 is ours. The sum keeps the work from being left out. */
+static size_t deciding(int way, size_t times)
+{
+    size_t sum = 0;
+    for (size_t t = 0; t < times; t++) {
+        struct plain_pair state = {0, 0};
+        for (size_t i = 0; i < SYMBOLS; i++) {
+            struct plain_decided d = way == 0 ? radio_decide(state, symbols[i], NUMBERS) : plain_decide(state, symbols[i], NUMBERS);
+            state = d.state;
+            sum += d.verdict;
+        }
+    }
+    return sum;
+}
+
+static void measure_symbols(size_t times)
+{
+    double taken[2][ROUNDS], m[2];
+    for (int round = -1; round < ROUNDS; round++)
+        for (int turn = 0; turn < 2; turn++) {
+            int way = (turn + round + 2) % 2;
+            double start = now();
+            volatile size_t sink = deciding(way, times);
+            (void)sink;
+            if (round >= 0)
+                taken[way][round] = now() - start;
+        }
+    for (int way = 0; way < 2; way++)
+        m[way] = median(taken[way]);
+    printf("\n| symbols                   | ours, ms | plain C  | /plain | ours, millions a second | plain C's |\n|---|---|---|---|---|---|\n");
+    printf("| %-25zu | %8.2f | %8.2f | %6.2f | %.2f | %.2f |\n", times * SYMBOLS, m[0], m[1], m[0] / m[1], (double)(times * SYMBOLS) / m[0] / 1e3, (double)(times * SYMBOLS) / m[1] / 1e3);
+}
+
 static void head(const char *unit)
 {
     printf("\n| %-25s | ours, ms | plain C  | table C  | same C   | /plain | /table | /same  | ns a %s |\n", "", unit);
@@ -364,11 +437,17 @@ int main(int argc, char **argv)
     letters_agree();
     on_air_agrees();
     refusals_agree();
+    make_symbols();
+    symbols_agree();
     if (wrong)
         return 1;
-    printf("ours and the three C programs agree\n");
+    printf("ours and the three C programs agree; symbols are decided alike\n");
     if (argc > 1 && strcmp(argv[1], "--same") == 0)
         return 0;
+    if (argc > 1 && strcmp(argv[1], "--symbols") == 0) {
+        measure_symbols(250);
+        return 0;
+    }
     head("bit");
     for (int k = 0; k < KINDS; k++) {
         kinds[k](MOST);
@@ -385,5 +464,6 @@ int main(int argc, char **argv)
     }
     measure("on air, 10000 of 77", sending, 77, 10000, 770000);
     measure("on air, 10000 of 250", sending, 250, 10000, 2500000);
+    measure_symbols(250);
     return 0;
 }

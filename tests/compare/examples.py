@@ -169,8 +169,13 @@ def stories():
     yield named("room for one byte less", told(worked.LONG, room=622), "tell 10 0 -")
 
 
+def symbols():
+    for state, numbers, line, name in worked.SYMBOLS:
+        yield named(name, records.deciding(state, numbers), "decide " + line)
+
+
 def everything():
-    for some in (checks, packets, written, small, deliveries, collected, damaged, whole_way, stories):
+    for some in (symbols, checks, packets, written, small, deliveries, collected, damaged, whole_way, stories):
         yield from some()
     yield named("a record cut short", b"P")
 

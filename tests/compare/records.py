@@ -1,5 +1,7 @@
 """Records of the program ask, and what it should print of them. All numbers are written high byte first."""
-from model import on_air, reader, story, writer
+import struct
+
+from model import on_air, reader, samples, story, writer
 from model.checks import packet_check
 from model.collector import Collector, Place
 from model.packet import Fields
@@ -67,11 +69,16 @@ def joining(packets, room):
     return b"J" + two(room) + two(len(packets)) + packets
 
 
+def deciding(state, numbers):
+    given = struct.pack(">%dd" % len(numbers), *numbers)
+    return b"D" + struct.pack(">2d", *state) + two(len(given)) + given
+
+
 def naming(name):
     return b"#" + bytes((len(name),)) + name.encode()
 
 
-HEADS = {b"#": 2, b"P": 3, b"W": 133, b"A": 7, b"R": 5, b"O": 3, b"F": 3, b"C": 5, b"N": 1, b"K": 3, b"S": 18, b"H": 7, b"T": 125, b"J": 5}
+HEADS = {b"#": 2, b"P": 3, b"W": 133, b"A": 7, b"R": 5, b"O": 3, b"F": 3, b"C": 5, b"N": 1, b"K": 3, b"S": 18, b"H": 7, b"T": 125, b"J": 5, b"D": 19}
 
 
 def number(b, i):
@@ -116,6 +123,16 @@ def story_of(b):
     end = 125 + number(b, 121)
     return (b[1], list(b[4:39]), number(b, 2), list(b[125:end]), int.from_bytes(b[39:43], "big"), list(b[43:55]), b[55:119], b[end:],
             min(number(b, 119), 2300))
+
+
+def symbol_of(b):
+    """What a D asks."""
+    count = min(number(b, 17) // 8, 40)
+    return struct.unpack(">2d", b[1:17]), struct.unpack(">%dd" % count, b[19 : 19 + 8 * count])
+
+
+def pattern(x):
+    return "nan" if x != x else struct.pack(">d", x).hex()
 
 
 def hexed(b):
@@ -170,6 +187,9 @@ class Program:
         if letter == b"J":
             answer, text = story.join(record[5:], min(number(record, 1), 1400))
             return ["join %d %s" % (answer, hexed(text)), "the rest as it was"]
+        if letter == b"D":
+            answer, verdict, product, state = samples.decide(*symbol_of(record))
+            return ["decide %d %s %s" % (answer, verdict, " ".join(map(pattern, (product, *state))))]
         if letter == b"K":
             return ["check %04X" % packet_check(record[3:])]
         if letter == b"S":
@@ -226,6 +246,8 @@ def said_of(record):
         return "tell kind %d, number %s, %d codes %s, time %d, certificate %s, signature %s, text %r, into %d bytes" % story_of(record)
     if letter == b"J":
         return "join into %d bytes %s" % (number(record, 1), hexed(record[5:]))
+    if letter == b"D":
+        return "decide, the state %s, the numbers %s" % symbol_of(record)
     if letter == b"K":
         return "check " + hexed(record[3:])
     if letter == b"S":

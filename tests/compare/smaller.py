@@ -89,6 +89,8 @@ def tries(record, size):
     if letter in (b"A", b"R", b"J"):
         head = HEADS[letter]
         return [*packets(record, head, size), *zeroed(record, 1, head - 2, size), *zeroed(record, head, len(record), size)]
+    if letter == b"D":
+        return [*zeroed(record, 1, 17, size), *zeroed(record, 19, len(record), size)]
     if letter == b"P":
         return [*packets(record, 3, size), *map(reading, counted(record[3:], size)), *zeroed(record, 3, len(record), size)]
     return zeroed(record, {b"O": 3}.get(letter, 1), len(record), size)

@@ -183,3 +183,28 @@ GIRL_PACKET = "78a300" + "20f" + "7" * 31 + "0041" + "44" + b"1/1 ".hex() + GIRL
 # The same sentence five times, 320 bytes: two parts of 149 and one of 22. Numbers 0041 to 0043.
 LONG = GIRL * 5
 LONG_SIZES = (250, 250, 123)
+
+# A state, a symbol's numbers, what is printed, what it is. 1.0 is the pattern 3ff0.., 5.0 4014.., 524280.0 411fffe0.., -524280.0 c11fffe0..
+FIVE = [5.0] + [0.0] * 31  # the pair (5, 0)
+LOWEST = [-32768.0] * 16 + [32767.0] * 16  # the pair (-524280, -524280)
+NO_NUMBER = float("nan")
+SYMBOLS = (
+    ((0.0, 0.0), FIVE, "0 undecided 0000000000000000 4014000000000000 0000000000000000", "a first symbol"),
+    ((1.0, 9.0), FIVE, "0 zero 4014000000000000 4014000000000000 0000000000000000", "a bit 0"),
+    ((-1.0, 9.0), FIVE, "0 one c014000000000000 4014000000000000 0000000000000000", "a bit 1"),
+    ((0.0, 9.0), FIVE, "0 undecided 0000000000000000 4014000000000000 0000000000000000", "a right angle"),
+    ((524280.0, -524280.0), LOWEST, "0 undecided 0000000000000000 c11fffe000000000 c11fffe000000000", "the largest pairs at a right angle"),
+    ((-1.0, -1.0), LOWEST, "0 zero 412fffe000000000 c11fffe000000000 c11fffe000000000", "the lowest samples, then the highest"),
+    ((-0.0, 1.0), [-0.0] * 32, "0 undecided 0000000000000000 0000000000000000 0000000000000000", "minus zeros"),
+    ((524281.0, 0.0), FIVE, "28 undecided 0000000000000000 411fffe400000000 0000000000000000", "a state one too large"),
+    ((0.0, -524281.0), FIVE, "28 undecided 0000000000000000 0000000000000000 c11fffe400000000", "one too small"),
+    ((0.5, 0.0), [NO_NUMBER] * 31, "28 undecided 0000000000000000 3fe0000000000000 0000000000000000", "half a state, and two cases more"),
+    ((NO_NUMBER, 0.0), FIVE, "28 undecided 0000000000000000 nan 0000000000000000", "a state that is no number"),
+    ((1.0, 1.0), [NO_NUMBER] * 31, "37 undecided 0000000000000000 3ff0000000000000 3ff0000000000000", "31 numbers, none of them one"),
+    ((1.0, 1.0), [0.0] * 33, "37 undecided 0000000000000000 3ff0000000000000 3ff0000000000000", "33 numbers"),
+    ((1.0, 1.0), [], "37 undecided 0000000000000000 3ff0000000000000 3ff0000000000000", "no number"),
+    *(((1.0, 1.0), [x] + [0.0] * 31, "38 undecided 0000000000000000 3ff0000000000000 3ff0000000000000", "a sample of %s" % x)
+      for x in (NO_NUMBER, float("inf"), -float("inf"), 0.5, 2.0**53, 32768.0, -32769.0)),
+    *(((1.0, 1.0), [0.0] * 31 + [x], "38 undecided 0000000000000000 3ff0000000000000 3ff0000000000000", "a last sample of %s" % x)
+      for x in (32767.5, -0.25)),
+)

@@ -4,8 +4,6 @@
   tests/independent/decoder.py          packets of every size from 2 to 250 bytes, then 200 frames of the foreign encoder
   tests/independent/decoder.py AIR      the frames that the foreign decoder finds in a file of air bytes, in hex
 """
-import contextlib
-import os
 import sys
 
 try:
@@ -16,6 +14,7 @@ except ImportError:
     sys.exit("decoder.py: this Python has no gr-rds (Debian: apt-get install gr-rds, then /usr/bin/python3)")
 
 import sent
+from quiet import quiet
 
 
 class Keep(gr.basic_block):
@@ -42,20 +41,6 @@ def decoded(air):
         if frame[8:] != b"ABCD":
             sys.exit("the decoder read %s as blocks %s" % (frame[:8].hex(), frame[8:]))
     return [frame[:8] for frame in keep.frames]
-
-
-@contextlib.contextmanager
-def quiet():
-    """The encoder tells on standard output what it does; nobody asked."""
-    sys.stdout.flush()
-    kept, nowhere = os.dup(1), os.open(os.devnull, os.O_WRONLY)
-    os.dup2(nowhere, 1)
-    try:
-        yield
-    finally:
-        os.dup2(kept, 1)
-        os.close(kept)
-        os.close(nowhere)
 
 
 def encoded(count):

@@ -1,8 +1,9 @@
 // Asks the proved functions what records on standard input name, and prints what they give as lines of text, an empty one behind each
 // record. A record begins with a letter. P reads a packet, W writes fields, A puts a packet on air, K takes a packet check; T tells a story,
-// J joins one; R gives a delivery to the receiver, O a frame to the collector, F releases a pair, C copies its packet; N begins with a fresh
+// J joins one; D decides a symbol; R gives a delivery to the receiver, O a frame to the collector, F releases a pair, C copies its packet; N begins with a fresh
 // receiver and an empty collector, S and H put a receiver's record and a collector's place as they are given; # only names what comes. The
 // modules say what follows a letter. All numbers are given high byte first. The input is as much as is read at once, 65536 bytes.
+mod deciding;
 mod input;
 mod keeping;
 mod reading;
@@ -40,6 +41,7 @@ fn length_of(b: &[u8]) -> usize
         b'J' => input::whole(b, 5, input::two(b, 3) as usize),
         b'S' => input::whole(b, 18, 0),
         b'H' => input::whole(b, 7, 0),
+        b'D' => input::whole(b, 19, input::two(b, 17) as usize),
         b'#' => input::whole(b, 2, input::byte(b, 1) as usize),
         _ => 0,
     }
@@ -54,6 +56,7 @@ fn asked(b: &[u8]) {
         b'K' => sending::check(b),
         b'T' => telling::tell(b),
         b'J' => telling::join(b),
+        b'D' => deciding::record(b),
         b'N' => say::text(b"new\n"),
         b'S' | b'H' => say::text(b"set\n"),
         b'#' => say::name(b),

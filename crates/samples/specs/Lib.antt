@@ -1,0 +1,5 @@
+pub mod Whole
+pub mod Symbol
+pub mod Coding
+pub mod Numbers
+pub mod Unrounded
