@@ -171,6 +171,14 @@ def crates_are_told():
                 fault(page, "no word of the crate %s" % crate)
 
 
+def meanings_are_told():
+    """What run/send says of a refusal is README's row of its number."""
+    rows = dict(re.findall(r"^\| (\d+) \| (.*?) \| .* \|$", text("README.md"), re.M))
+    for n, meaning in re.findall(r'^    (\d+): "(.*)",$', text("tools/pier/ending.py"), re.M):
+        if rows.get(n) != meaning:
+            fault("README.md", "number %s means %r there and %r in tools/pier" % (n, rows.get(n), meaning))
+
+
 def number(bits):
     return int(bits.replace(" ", ""), 2)
 
@@ -225,6 +233,7 @@ def main():
     map_is_full()
     edits_are_told()
     crates_are_told()
+    meanings_are_told()
     division_holds()
     if faults:
         sys.exit("\n".join(faults))

@@ -2,9 +2,8 @@
 
   python3 -m compare.heard COUNT        COUNT phases and seeds; run it in tests/
 
-run/listing must show every frame, the last with answer 1; where there is a run/board, it must show the sentence.
+run/listing must show every frame, the last with answer 1, and run/board the sentence.
 """
-import os
 import subprocess
 import sys
 
@@ -27,16 +26,15 @@ def main(count):
     direct = subprocess.run(["../run/listing"], input=air, stdout=subprocess.PIPE, check=True).stdout.decode()
     if answer or not direct.endswith(" 1\nframes %d\n" % frames):
         sys.exit("the sentence on air is not %d frames and a whole packet:\n%s" % (frames, direct))
-    board = os.path.exists("../run/board")
     for seed in range(count):
         # one bit before the air, since the first has nothing before it
         samples = signals.as_bytes(signals.signal("1" + signals.bits_of(air), seed / count, HEIGHT, NOISE, seed))
         listed = piped("../run/listing", samples).decode()
         if listed != direct:
             sys.exit("phase %d/%d of a turn: listed\n%sand not\n%s" % (seed, count, listed, direct))
-        if board and worked.GIRL not in piped("../run/board", samples):
+        if worked.GIRL not in piped("../run/board", samples):
             sys.exit("phase %d/%d of a turn: run/board does not show the sentence" % (seed, count))
-    print("heard: %d frames in each of %d phases, with noise%s" % (frames, count, ", and the sentence on the board" if board else "; there is no run/board here"))
+    print("heard: %d frames in each of %d phases, with noise, and the sentence on the board" % (frames, count))
 
 
 if __name__ == "__main__":

@@ -30,7 +30,7 @@ use Rattle.join.specs.Places.{pieceAt, Placed, Ready}
 use Rattle.join.proofs.Cuts.{onward, onward-next}
 
 -- ---- what a part is: accepted, of type 15
-part-text : (b : List ℕ) → isPart b ≡ true → (readAnswer b ≡ 0) × (kindIn b ≡ 15)
+pub part-text : (b : List ℕ) → isPart b ≡ true → (readAnswer b ≡ 0) × (kindIn b ≡ 15)
 unfolding isPart
 part-text b e = text-there b (eqb-true (textAnswer b) 0 (and-left (eqb (textAnswer b) 0) (eqb (setIn b) 0) e))
 

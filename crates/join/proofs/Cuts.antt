@@ -79,7 +79,7 @@ pub same-end : (a b : List ℕ) (i : ℕ) → length a ≡ length b → length a
 unfolding same
 same-end a b i e h = rw (drop-of-length-le a {i = i} h, drop-of-length-le b {i = i} (omega arith))
 
-same-long : (a b : List ℕ) → (length a ≡ length b → ⊥) → same a b ≡ false
+pub same-long : (a b : List ℕ) → (length a ≡ length b → ⊥) → same a b ≡ false
 unfolding same
 same-long [] [] h = absurd (h refl)
 same-long [] (y ∷ b) h = refl

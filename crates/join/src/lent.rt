@@ -7,7 +7,7 @@ ghost use Rattle.laws.specs.Scan.{all};
 ghost use Rattle.size.specs.Size.{packetSize};
 ghost use Rattle.packet.specs.Reading.{bodyOf};
 ghost use Rattle.story.specs.Telling.{headOf};
-ghost use Rattle.story.specs.Joining.{lent, isPart, same, headed as hasHead, withHead};
+ghost use Rattle.story.specs.Joining.{lent, isPart, headed as hasHead, withHead};
 ghost use Rattle.join.specs.Places.{pieceAt};
 
 // How many bytes the packet that begins at i says it has.
@@ -53,17 +53,6 @@ pub(crate) fn count(packets: &[u8]) -> usize
     m
 }
 
-// Whether the reader takes it as a text, and that in set 0: the set stands 4 bits into the content.
-fn is_part(b: &[u8]) -> bool
-    ensures { λ r. ⌜ r ≡ isPart (now (b .entry)) ⌝ }
-{
-    if reader::text_answer(b) != 0 {
-        return false;
-    }
-    let n = format::field(b, 16, 8) as usize;
-    format::field(b, 28 + 96 * n, 4) == 0
-}
-
 // Whether each packet that is lent is a part.
 pub(crate) fn all_parts(packets: &[u8]) -> bool
     ensures { λ r. ⌜ r ≡ all isPart (lent (now (packets .entry))) ⌝ }
@@ -76,27 +65,11 @@ pub(crate) fn all_parts(packets: &[u8]) -> bool
             return true;
         }
         let b = piece(packets, i);
-        if !is_part(b) {
+        if !crate::is_part(b) {
             return false;
         }
         i = next(packets, i);
         m += 1;
-    }
-    true
-}
-
-// Whether two lists of one length are the same.
-pub(crate) fn same_bytes(a: &[u8], b: &[u8]) -> bool
-    requires { ⌜ length (now a) ≡ length (now b) ⌝ }
-    ensures { λ r. ⌜ r ≡ same (now (a .entry)) (now (b .entry)) ⌝ }
-{
-    let n = a.len();
-    let mut i: usize = 0;
-    while i < n {
-        if a[i] != b[i] {
-            return false;
-        }
-        i += 1;
     }
     true
 }
@@ -122,7 +95,7 @@ fn headed(b: &[u8], k: usize, n: usize) -> bool
         return false;
     }
     let h = [(49 + k) as u8, 47, (48 + n) as u8, 32];
-    same_bytes(&h, u)
+    crate::same_bytes(&h, u)
 }
 
 // Where the first of the parts with that head begins; the end where there is none.

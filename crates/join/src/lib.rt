@@ -4,8 +4,37 @@ mod lent;
 
 ghost use mathlib.Core.Path.{_≡_};
 ghost use lib.ListN.{length};
-ghost use Rattle.story.specs.Joining.{joined, joinOutput};
+ghost use Rattle.story.specs.Joining.{isPart, same, joined, joinOutput};
 use story::Joined;
+
+// Whether the reader takes it as a text, and that in set 0: the set stands 4 bits into the content.
+pub fn is_part(packet: &[u8]) -> bool
+    ensures { λ r. ⌜ r ≡ isPart (now (packet .entry)) ⌝ }
+{
+    if reader::text_answer(packet) != 0 {
+        return false;
+    }
+    let n = format::field(packet, 16, 8) as usize;
+    format::field(packet, 28 + 96 * n, 4) == 0
+}
+
+// Whether two lists are the same.
+pub fn same_bytes(a: &[u8], b: &[u8]) -> bool
+    ensures { λ r. ⌜ r ≡ same (now (a .entry)) (now (b .entry)) ⌝ }
+{
+    let n = a.len();
+    if b.len() != n {
+        return false;
+    }
+    let mut i: usize = 0;
+    while i < n {
+        if a[i] != b[i] {
+            return false;
+        }
+        i += 1;
+    }
+    true
+}
 
 fn refused(answer: u8) -> Joined
     ensures { λ r. ⌜ r ≡ record { answer = answer; length = 0 } ⌝ }

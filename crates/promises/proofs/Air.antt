@@ -19,7 +19,7 @@ use Rattle.promises.proofs.Sent.{taken, frames-few, are-frames}
 
 module _ (p : List ℕ) (l v : ℕ) (out : List ℕ) (e : answerOf p l v out ≡ 0) where
   -- so many frames, thirteen bytes each
-  frames-long : length (framesOf p l v) ≡ framesFor (length p)
+  pub frames-long : length (framesOf p l v) ≡ framesFor (length p)
   unfolding framesOf
   frames-long = length-frames p l v (record { 0 = 0 }) (framesFor (length p))
 
@@ -34,7 +34,7 @@ module _ (p : List ℕ) (l v : ℕ) (out : List ℕ) (e : answerOf p l v out ≡
       rw (y) (take-at (streamOf (framesOf p l v)) (drop (13 * framesFor (length p)) out) (13 * framesFor (length p)) stream-long)
 
 -- some frames, and some bytes delivered
-back : (fs : List (List ℕ)) (calls : List Call) → AreFrames fs → 1 ≤ length fs → inBounds calls ≡ true → delivered calls ≡ streamOf fs
+pub back : (fs : List (List ℕ)) (calls : List Call) → AreFrames fs → 1 ≤ length fs → inBounds calls ≡ true → delivered calls ≡ streamOf fs
     → (allTaken freshReceiver calls ≡ true)
     × (allFrames freshReceiver calls ≡ fs)
     × (lastReceiver freshReceiver calls ≡ freshReceiver)

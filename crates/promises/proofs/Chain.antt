@@ -29,7 +29,7 @@ use Rattle.promises.proofs.Air.{air-comes-back}
 use Rattle.promises.proofs.Frames.{frames-come-back}
 
 -- a packet that a reader accepts goes on air at any level and version that there are
-on-air : (p : List ℕ) (level version : ℕ) (out : List ℕ) → Accepted p → 1 ≤ level → level ≤ 6 → version ≤ 31 → 13 * framesFor (length p) ≤ length out
+pub on-air : (p : List ℕ) (level version : ℕ) (out : List ℕ) → Accepted p → 1 ≤ level → level ≤ 6 → version ≤ 31 → 13 * framesFor (length p) ≤ length out
     → airedOf p level version out .answer ≡ 0
 unfolding airedOf answerOf cases sized packetSize reserved
 on-air p level version out a low high v room =

@@ -135,7 +135,7 @@ module _ (p : List ℕ) (l v : ℕ) (u : Under 256 p) (t : Taken p l v) where
       rw (z, a, b, n, s, w, x, y, q))
       (λ e. rw (a, b, n, e))
 
-  one-of : (n k : ℕ) → k + n ≤ N → (f : List ℕ) → List·Memᴰ f (framesFrom p l v (record { 0 = k }) n) → (j : ℕ) × (j < N) × (f ≡ frameAt j)
+  pub one-of : (n k : ℕ) → k + n ≤ N → (f : List ℕ) → List·Memᴰ f (framesFrom p l v (record { 0 = k }) n) → (j : ℕ) × (j < N) × (f ≡ frameAt j)
   unfolding framesFrom
   one-of zero k h f m = absurd (List·Memᴰ·not-nil m)
   one-of (suc n) k h f m = ⊎-elim (λ (e : f ≡ frameAt k). (k, omega arith, e)) (λ r. one-of n (k + 1) (omega arith) f r) (List·Memᴰ·cases-cons m)

@@ -29,7 +29,7 @@ use Rattle.promises.proofs.Answers.{exactly}
 use Rattle.promises.proofs.Chain.{chain}
 use Rattle.promises.proofs.Single.{one-outcome}
 
-told-answer : (s : Story) (codes text : List ℕ) (room : ℕ) → told s codes text room .answer ≡ toldAnswer s codes text room
+pub told-answer : (s : Story) (codes text : List ℕ) (room : ℕ) → told s codes text room .answer ≡ toldAnswer s codes text room
 unfolding told
 told-answer s codes text room = go (toldAnswer s codes text room)
   where

@@ -79,10 +79,10 @@ module _ (s : Story) (codes : List ℕ) (y : Given s) (own : first (ownCases s c
       (reads-all ps (k + 1) (omega arith) (all-tail (short (roomWith (s .codes))) p ps f) (under-rest p (together ps) u))
 
 module _ (s : Story) (codes text : List ℕ) (y : Given s) (u : Under 256 text) (room : ℕ) (e : toldAnswer s codes text room ≡ 0) where
-  wide-enough : 2 ≤ roomWith (s .codes)
+  pub wide-enough : 2 ≤ roomWith (s .codes)
   wide-enough = omega (arith, few-codes s codes (y .long) (tellable s codes text room e .own))
 
-  parts-read : Parts (partCount s text) (s .digits) 0 (packetsOf s codes text) (partTexts s text)
+  pub parts-read : Parts (partCount s text) (s .digits) 0 (packetsOf s codes text) (partTexts s text)
   unfolding packetsOf
   parts-read =
       let t = tellable s codes text room e in

@@ -8,3 +8,4 @@ pub mod Part
 pub mod Back
 pub mod Answers
 pub mod Copying
+pub mod Numbers

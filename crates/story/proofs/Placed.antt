@@ -46,7 +46,7 @@ pub number-first : (ds : List ℕ) (k : ℕ) → 31 ≤ length ds → take 31 (n
 unfolding numberAfter
 number-first ds k l = take-at (take 31 ds) (fourOf (lastFour ds + k)) 31 (length-take-le 31 ds l)
 
-same-self : (l : List ℕ) → same l l ≡ true
+pub same-self : (l : List ℕ) → same l l ≡ true
 unfolding same
 same-self [] = refl
 same-self (x ∷ l) = and-yes (same l l) (eq-eqb x x refl) ∙ same-self l

@@ -1,7 +1,8 @@
 // A text longer than a packet: what is told, what telling and joining give back. The functions are in `tell` and `join`.
 ghost use mathlib.Core.Path.{_≡_};
-ghost use lib.ListN.{getD};
-ghost use Rattle.story.specs.Telling.{lastFour};
+ghost use mathlib.Core.List.{_++_};
+ghost use lib.ListN.{getD, take};
+ghost use Rattle.story.specs.Telling.{lastFour, fourOf};
 
 // What every part of a story has: kind of text, number of the first part, count of codes, time, certificate, signature.
 pub struct Story {
@@ -42,4 +43,16 @@ pub fn last_four(digits: &[u8]) -> u32
     let c = byte(digits, 33);
     let d = byte(digits, 34);
     a as u32 * 1000 + b as u32 * 100 + c as u32 * 10 + d as u32
+}
+
+// The message number with other last four digits.
+pub fn with_last_four(digits: [u8; 35], x: usize) -> [u8; 35]
+    ensures { λ r. ⌜ r ≡ take 31 digits ++ fourOf x ⌝ }
+{
+    let mut d = digits;
+    d[31] = (x / 1000 % 10) as u8;
+    d[32] = (x / 100 % 10) as u8;
+    d[33] = (x / 10 % 10) as u8;
+    d[34] = (x % 10) as u8;
+    d
 }

@@ -1,27 +1,18 @@
 -- A part's number, head and packet as the code puts them. Assumes nothing.
 use mathlib.Core.Path.{_≡_, sym, ap, ap₂, _∙_}
-use mathlib.Core.List.{List, [], _∷_, _++_, append-nil}
+use mathlib.Core.List.{List, [], _∷_}
 use Prim.Native.Nat.{ℕ, _+_, _-_, _≤_}
 use native.Mathlib.Omega.{arith}
-use lib.ListN.{length, take, drop, length-append, drop-of-length-le, replicate, length-replicate}
-use lib.Seq.{sets, sets-eq, take-at}
+use lib.ListN.{length, take, drop, length-append, replicate, length-replicate}
+use lib.Seq.{sets, take-at}
 use Rattle.laws.proofs.Writes.{sets-append, from-front}
 use Rattle.packet.specs.declared.Fields.{Fields}
 use Rattle.packet.specs.Writing.{bytesFor, packetOutput, outputBy}
 use Rattle.story.specs.declared.Story.{Story}
-use Rattle.story.specs.Telling.{headOf, lastFour, fourOf, numberAfter, fieldsWith, partFields, partBody, partPacket}
+use Rattle.story.specs.Telling.{headOf, numberAfter, fieldsWith, partFields, partBody, partPacket}
 use Rattle.story.specs.Given.{Lengths}
 use Rattle.story.proofs.Part.{part-written, part-long}
 use Rattle.tell.specs.Steps.{Sendable}
-
-pub number-set : (ds : List ℕ) (x k : ℕ) → length ds ≡ 35 → x ≡ lastFour ds + k → sets ds 31 (fourOf x) ≡ numberAfter ds k
-unfolding numberAfter
-number-set ds x k n e =
-    let z : drop (31 + length (fourOf x)) ds ≡ [] = drop-of-length-le ds {i = 35} (omega arith) in
-    sets-eq (fourOf x) ds 31 (omega arith)
-    ∙ ap (λ (l : List ℕ). (take 31 ds ++ fourOf x) ++ l) z
-    ∙ append-nil (take 31 ds ++ fourOf x)
-    ∙ ap (λ (y : ℕ). take 31 ds ++ fourOf y) e
 
 pub head-set : (l : List ℕ) (k n : ℕ) → sets l 0 ((49 + k) ∷ 47 ∷ (48 + n) ∷ 32 ∷ []) ≡ sets l 0 (headOf (k + 1) n)
 head-set l k n = let e : 49 + k ≡ 48 + (k + 1) = omega arith in ap (λ (x : ℕ). sets l 0 (x ∷ 47 ∷ (48 + n) ∷ 32 ∷ [])) e

@@ -17,12 +17,7 @@ fn number_after(digits: [u8; 35], k: usize) -> [u8; 35]
     ensures { λ r. ⌜ r ≡ numberAfter digits k ⌝ }
 {
     let x = story::last_four(&digits) as usize + k;
-    let mut d = digits;
-    d[31] = (x / 1000 % 10) as u8;
-    d[32] = (x / 100 % 10) as u8;
-    d[33] = (x / 10 % 10) as u8;
-    d[34] = (x % 10) as u8;
-    d
+    story::with_last_four(digits, x)
 }
 
 // The fields of a part whose body has t bytes.

@@ -1,4 +1,4 @@
--- `join::lent::is_part` meets its contract. Assumes nothing.
+-- `join::is_part` meets its contract. Assumes nothing.
 use mathlib.Core.Path.{_≡_, sym, ap, _∙_}
 use Prim.Native.Nat.{ℕ, _+_, _*_}
 use native.Mathlib.Omega.{arith}
@@ -7,14 +7,14 @@ use Rattle.packet.specs.Reading.{codesIn}
 use Rattle.join.proofs.Cuts.{part-no, part-by}
 use Rattle.join.proofs.Bodies.{text-codes, part-set, field-is}
 use borrow.Author.Needs.{needs}
-use Rattle.join.proofs.lent.is_part.Statement.{statement}
-use Rattle.join.proofs.lent.is_part.Tie as tie
+use Rattle.join.proofs.is_part.Statement.{statement}
+use Rattle.join.proofs.is_part.Tie as tie
 
 text-answer-requires : tie.Need-text-answer-requires
 text-answer-requires c κs = search needs
 
 returns : tie.Need-returns
-returns c = sym (part-no (c .before .before .before .args .b .now) (λ e. c .if1 .taken (c .before .text-answer .ensures ∙ e)))
+returns c = sym (part-no (c .before .before .before .args .packet .now) (λ e. c .if1 .taken (c .before .text-answer .ensures ∙ e)))
 
 field-requires : tie.Need-field-requires
 field-requires c κs = search needs
@@ -33,7 +33,7 @@ field-requires-2 c κs = search needs
 
 returns-2 : tie.Need-returns-2
 returns-2 c =
-    let b = c .before .before .before .before .before .args .b .now in
+    let b = c .before .before .before .before .before .args .packet .now in
     let n = c .before .field .result in
     let e : n ≡ codesIn b = c .before .field .ensures in
     let t = sym (c .before .before .before .text-answer .ensures) ∙ c .before .before .if1 .left in

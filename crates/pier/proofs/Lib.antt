@@ -1,0 +1,12 @@
+pub mod Lists
+pub mod Texts
+pub mod Keys
+pub mod Keeping
+pub mod Step
+pub mod AnyOrder
+pub mod Half
+pub mod Veiled
+pub mod Packet
+pub mod Told
+pub mod WholeStory
+pub mod Answers

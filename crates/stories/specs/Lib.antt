@@ -1,0 +1,5 @@
+pub mod Parts
+pub mod Tales
+pub mod Stories
+pub mod Steps
+pub mod Examples

@@ -1,0 +1,1 @@
+"""The pier's two pages, tried as people and as strangers use them."""
