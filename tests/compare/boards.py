@@ -14,7 +14,7 @@ from model.board import Board
 from model.packet import Fields
 from model.writer import write
 
-from . import stories, streams
+from . import smaller, stories, streams
 
 # What a board answers to a frame of eight bytes; a whole pair is released at once, so nothing contradicts one (15).
 ANSWERS = (0, 1, 2, 3, 4, 5, 6, 12, 13, 14, 17)
@@ -125,26 +125,12 @@ def run(words, frames):
     return subprocess.run(words, input=b"G" + b"".join(frames), stdout=subprocess.PIPE).stdout
 
 
-def smallest(frames, differs):
-    size = len(frames)
-    while size:
-        at = 0
-        while at < len(frames):
-            less = frames[:at] + frames[at + size :]
-            if differs(less):
-                frames = less
-            else:
-                at += size
-        size //= 2
-    return frames
-
-
 def main(count):
     words, seen, n = command(), collections.Counter(), 0
     for seed in range(count):
         frames, board = drawn(seed), Watched()
         if run(words, frames) != heard(frames, board):
-            least = smallest(frames, lambda some: run(words, some) != heard(some, Watched()))
+            least = smaller.shorter(frames, [1 << k for k in range(12, -1, -1)], lambda some: run(words, some) != heard(some, Watched()))
             sys.exit("frames of seed %d differ; the fewest found, in hex:\n%s\nshow: %s\nmodel: %s"
                      % (seed, "\n".join(f.hex(" ", 2) for f in least), run(words, least).hex(), heard(least, Watched()).hex()))
         seen.update(board.seen)

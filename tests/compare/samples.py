@@ -50,19 +50,6 @@ def drawn(seed):
     return kind, data[: rng.randrange(len(data) + 1)] if kind == "cut" else data
 
 
-def fewer(data, differs):
-    """Symbols left out, many at a time at first."""
-    for size in (256 << k for k in range(8, -1, -1)):
-        at = 0
-        while at < len(data):
-            less = data[:at] + data[at + size :]
-            if differs(less):
-                data = less
-            else:
-                at += size
-    return data
-
-
 def runs(count):
     """run/bits, and how its runs ended."""
     seen, longest = collections.Counter(), 0
@@ -70,7 +57,7 @@ def runs(count):
         kind, data = drawn(seed)
         due = bits(data)
         if run(data) != due:
-            least = fewer(data, lambda d: run(d) != bits(d))
+            least = smaller.shorter(data, [256 << k for k in range(8, -1, -1)], lambda d: run(d) != bits(d))
             numbers = struct.unpack(">%dd" % (len(least) // 8), least[: len(least) // 8 * 8])
             sys.exit("samples %d (%s) differ; the fewest found:\n%s\nbits: %s\nmodel: %s" % (seed, kind, numbers, run(least), bits(least)))
         seen[due[1].split()[3] if "refused" in due[1] else "cut" if due[1] else "whole"] += 1

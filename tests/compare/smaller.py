@@ -6,18 +6,22 @@ from .draw import mended
 from .records import CONTENTS, HEADS, number, reading, split, two
 
 
-def air(data, differs):
-    """Air bytes with frames left out, then bytes."""
-    sizes = [13 << k for k in range(12, -1, -1)] + [8, 4, 2, 1]
+def shorter(some, sizes, differs):
+    """Bytes or a list with parts of these sizes left out, wherever it still differs."""
     for size in sizes:
         at = 0
-        while at < len(data):
-            less = data[:at] + data[at + size :]
+        while at < len(some):
+            less = some[:at] + some[at + size :]
             if differs(less):
-                data = less
+                some = less
             else:
                 at += size
-    return data
+    return some
+
+
+def air(data, differs):
+    """Air bytes with frames left out, then bytes."""
+    return shorter(data, [13 << k for k in range(12, -1, -1)] + [8, 4, 2, 1], differs)
 
 
 def without(b, size):
