@@ -3,7 +3,7 @@ import importlib
 import os
 import sys
 
-MODULES = {"send": "send", "board": "board", "pier": "serve", "pier-noise": "noise"}
+MODULES = {"send": "send", "board": "board", "pier": "serve", "pier-noise": "noise", "keep": "keep"}
 
 sys.path[0] = os.path.dirname(os.path.dirname(os.path.abspath(__file__)))
 name = sys.argv.pop(1)

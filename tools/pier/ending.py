@@ -2,7 +2,7 @@
 import os
 import sys
 
-# What the numbers mean that telling and the on-air writer refuse with, in README's words (tests/docs.py holds the two together).
+# What the numbers mean that telling, the on-air writer and the shelf refuse with, in README's words (tests/docs.py holds the two together).
 MEANINGS = {
     10: "the memory lent for the result is too short",
     13: "the source level is reserved",
@@ -13,6 +13,9 @@ MEANINGS = {
     30: "the text's last byte is 0x80 or above and belongs to no character",
     31: "the text needs more than nine parts",
     32: "the last part's message number would pass 9999",
+    34: "the shelf can't be read, or is not whole records, or has over 4,096; or memory that is not 256 bytes",
+    35: "a record of the shelf breaks a rule",
+    36: "the shelf has 4,096 records, and no more are kept",
 }
 
 

@@ -2,3 +2,4 @@ pub mod Laws
 pub mod Whole
 pub mod Numbers
 pub mod LetterLine
+pub mod RecordLine

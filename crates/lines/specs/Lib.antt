@@ -1,3 +1,4 @@
 pub mod Lines
 pub mod Letters
+pub mod Records
 pub mod Examples

@@ -1,7 +1,9 @@
-// What the listing program prints of a frame; the letters program's lines are in `letters`.
+// What the listing program prints of a frame; the letters program's lines are in `letters`, the shelf program's in `records`.
 mod letters;
+mod records;
 
 pub use letters::letter_line;
+pub use records::record_line;
 ghost use mathlib.Core.Path.{_≡_};
 ghost use mathlib.Core.List.{[], _∷_, _++_};
 ghost use Prim.Native.Nat.{_+_, _*_, _<_, _≤_};
@@ -18,7 +20,7 @@ pub(crate) fn hex_glyph(d: u8) -> u8
 }
 
 // Two characters a byte from the output's start.
-fn put_hex(frame: &[u8], out: &mut [u8])
+pub(crate) fn put_hex(frame: &[u8], out: &mut [u8])
     requires { ⌜ 2 * length (now frame) ≤ length (now out) ⌝ }
     ensures { λ _. ⌜ now (out .exit) ≡ sets (now (out .entry)) 0 (hexOf (now (frame .entry))) ⌝ }
 {
@@ -31,7 +33,7 @@ fn put_hex(frame: &[u8], out: &mut [u8])
     }
 }
 
-fn decimal_length(n: u8) -> usize
+pub(crate) fn decimal_length(n: u8) -> usize
     ensures { λ r. ⌜ (r ≡ length (decimalOf n)) × (r < 4) ⌝ }
 {
     if n < 10 {
@@ -44,7 +46,7 @@ fn decimal_length(n: u8) -> usize
 }
 
 // The number, then the line's end.
-fn put_answer(answer: u8, out: &mut [u8])
+pub(crate) fn put_answer(answer: u8, out: &mut [u8])
     requires { ⌜ length (decimalOf answer) + 1 ≤ length (now out) ⌝ }
     ensures { λ _. ⌜ now (out .exit) ≡ sets (now (out .entry)) 0 (decimalOf answer ++ (10 ∷ [])) ⌝ }
 {

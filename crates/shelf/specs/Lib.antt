@@ -1,0 +1,5 @@
+pub mod Record
+pub mod Summary
+pub mod Shelf
+pub mod Back
+pub mod Examples

@@ -1,0 +1,49 @@
+"""The shelf, request K6 of paper 02: records of 256 bytes, the summary of them by type, a record's line, and the refusals."""
+
+RECORD, MOST = 256, 4096
+NONE = 0xFFFFFFFF
+
+
+def record(level, version, packet):
+    """Level, version, P in two bytes high first, 250 bytes (packet, then 0xFF), two zero bytes."""
+    return bytes((level, version)) + len(packet).to_bytes(2, "big") + packet + b"\xff" * (250 - len(packet)) + bytes(2)
+
+
+def records(shelf):
+    return [shelf[k : k + RECORD] for k in range(0, len(shelf), RECORD)]
+
+
+def packet(one):
+    return one[4 : 4 + int.from_bytes(one[2:4], "big")]
+
+
+def breaks_a_rule(one):
+    p = int.from_bytes(one[2:4], "big")
+    if not 1 <= one[0] <= 6 or one[1] > 31 or not 2 <= p <= 250:
+        return True
+    length_field = int.from_bytes(one[4:6], "big") & 0x7FF
+    return p != length_field + 2 or one[4 + p : 254].strip(b"\xff") != b"" or one[254:] != bytes(2)
+
+
+def refusal(shelf):
+    """34: unreadable (None), not whole records or over 4,096; 35: a record breaks a rule; else 0."""
+    if shelf is None or len(shelf) % RECORD or len(shelf) > MOST * RECORD:
+        return 34
+    return 35 if any(map(breaks_a_rule, records(shelf))) else 0
+
+
+def line(one):
+    return "%d %d %d %s" % (one[0], one[1], int.from_bytes(one[2:4], "big"), packet(one).hex().upper())
+
+
+def printed(shelf):
+    """What the program prints of the file."""
+    number = refusal(shelf)
+    return ["%d" % number] if number else [line(one) for one in records(shelf)]
+
+
+def summary(shelf):
+    """How many records a type has, and the last one's number, for each of 32 types."""
+    types = [one[4] >> 3 for one in records(shelf)]
+    entries = ((types.count(t), max((k for k, other in enumerate(types) if other == t), default=NONE)) for t in range(32))
+    return b"".join(count.to_bytes(4, "big") + last.to_bytes(4, "big") for count, last in entries)
