@@ -206,7 +206,7 @@ class Program:
         place = Place(level, version, total) if held == 1 else None
         if place and number < 63:
             place.pieces[number] = bytes(4)
-        self.collector.put(i % 4, place)
+        self.collector.put(i % 4, place, number == 63)
         return ["set"]
 
 

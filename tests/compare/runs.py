@@ -22,7 +22,7 @@ def place(rng):
     """A place as it is given, often one that no run of frames leaves."""
     total = rng.choice((0, 1, 2, 62, 63, 64, 255))
     return placing(rng.randrange(256), rng.choice((0, 1, 1, 2)), rng.choice((0, 1, 5, 6, 7, 255)), rng.choice((0, 3, 31, 32)), total,
-                   rng.choice((63, 255, 0, max(total - 1, 0), min(total, 255), 62)))
+                   rng.choice((63, 64, 255, 0, max(total - 1, 0), min(total, 255), 62)))
 
 
 def frames(rng):

@@ -119,16 +119,18 @@ BEHIND = "0123456789ABCDEF"
 
 # A place of the collector: held, level, version, total, a number marked; the answer of an offer of seven bytes.
 PLACES = (
-    ((1, 7, 0, 1, 63), 28, "held at level 7"),
-    ((1, 0, 0, 1, 63), 28, "held at level 0"),
-    ((1, 6, 32, 1, 63), 28, "held at version 32"),
-    ((1, 6, 31, 64, 63), 28, "held with a total of 64"),
-    ((1, 6, 31, 0, 63), 28, "held with a total of 0"),
+    ((1, 7, 0, 1, 255), 28, "held at level 7"),
+    ((1, 0, 0, 1, 255), 28, "held at level 0"),
+    ((1, 6, 32, 1, 255), 28, "held at version 32"),
+    ((1, 6, 31, 64, 255), 28, "held with a total of 64"),
+    ((1, 6, 31, 0, 255), 28, "held with a total of 0"),
     ((1, 6, 31, 5, 5), 28, "number 5 of 5 marked"),
     ((1, 6, 31, 5, 4), 26, "number 4 of 5 marked"),
     ((1, 6, 31, 63, 62), 26, "number 62 of 63 marked"),
-    ((1, 6, 31, 1, 63), 26, "held, and no number marked"),
+    ((1, 6, 31, 1, 255), 26, "held, and no number marked"),
     ((0, 7, 32, 64, 62), 26, "free, whatever else it has"),
+    ((1, 6, 31, 63, 63), 28, "held, the top bit of its marks set"),
+    ((0, 6, 31, 63, 63), 28, "free, the top bit of its marks set"),
 )
 
 # What the collector is asked, one call behind the other: the call, its arguments, its answer.

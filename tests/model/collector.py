@@ -35,14 +35,15 @@ class Place:
 class Collector:
     def __init__(self):
         self.places = [None] * 4  # a free place is none
+        self.tops = [0] * 4  # the top bit of each place's marks, which should be 0 (paper 02, K11)
 
-    def put(self, i, place):
-        """A place as it is given, or a free one."""
-        self.places[i] = place
+    def put(self, i, place, top):
+        """A place as it is given, or a free one, and the top bit of its marks."""
+        self.places[i], self.tops[i] = place, top
 
     def damaged(self):
         held = [p for p in self.places if p]
-        return any(p.damaged() for p in held) or len({p.pair for p in held}) < len(held)
+        return any(self.tops) or any(p.damaged() for p in held) or len({p.pair for p in held}) < len(held)
 
     def of(self, pair):
         """The place of a pair, where it has one."""

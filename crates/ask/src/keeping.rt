@@ -5,14 +5,14 @@
 // places (modulo 4), whether it is held (1), level, version, total, a number: that place with this number marked (none from 63 on).
 use crate::input;
 use crate::say;
-use collector::Collector;
-use collector::Place;
+use collector::Holding;
+use collector::Holdings;
 use collector::Total;
 use receiver::Receiver;
 
 pub(crate) struct Kept {
     pub receiver: Receiver,
-    pub collector: Collector,
+    pub collector: Holdings,
 }
 
 pub(crate) fn begin() -> Kept {
@@ -38,21 +38,21 @@ fn received(r: Receiver, delivery: &[u8], n: usize, memory: &mut [u8]) -> Receiv
     got.receiver
 }
 
-fn offered(c: Collector, frame: &[u8]) -> Collector {
+fn offered(c: Holdings, frame: &[u8]) -> Holdings {
     let o = collector::offer(c, frame);
     say::one(b"offer", o.answer as u64);
     say::text(b"\n");
     o.collector
 }
 
-fn released(c: Collector, level: u8, version: u8) -> Collector {
+fn released(c: Holdings, level: u8, version: u8) -> Holdings {
     let o = collector::release(c, level, version);
     say::one(b"release", o.answer as u64);
     say::text(b"\n");
     o.collector
 }
 
-fn copied(c: Collector, level: u8, version: u8, n: usize, memory: &mut [u8]) {
+fn copied(c: Holdings, level: u8, version: u8, n: usize, memory: &mut [u8]) {
     let e = input::least(n, memory.len());
     let a = collector::copy(c, level, version, &mut memory[0..e]);
     say::one(b"copy", a.answer as u64);
@@ -67,13 +67,13 @@ fn pending(b: &[u8]) -> Receiver {
     }
 }
 
-fn place(b: &[u8]) -> Place {
-    let mut marks = [false; 63];
-    let number = input::byte(b, 6) as usize;
-    if number < 63 {
-        marks[number] = true;
+fn place(b: &[u8]) -> Holding {
+    let mut marks = 0u64;
+    let number = input::byte(b, 6);
+    if number < 64 {
+        marks = 1 << number;
     }
-    Place {
+    Holding {
         held: input::byte(b, 2) == 1,
         level: input::byte(b, 3),
         version: input::byte(b, 4),
@@ -83,7 +83,7 @@ fn place(b: &[u8]) -> Place {
     }
 }
 
-fn with_place(c: Collector, b: &[u8]) -> Collector {
+fn with_place(c: Holdings, b: &[u8]) -> Holdings {
     let mut d = c;
     let i = (input::byte(b, 1) % 4) as usize;
     d.places[i] = place(b);
@@ -106,7 +106,7 @@ fn receiver_after(r: Receiver, b: &[u8]) -> Receiver {
 }
 
 // The collector behind a record.
-fn collector_after(c: Collector, b: &[u8]) -> Collector {
+fn collector_after(c: Holdings, b: &[u8]) -> Holdings {
     match input::byte(b, 0) {
         b'O' => offered(c, format::part(b, 3, 65536)),
         b'F' => released(c, input::byte(b, 1), input::byte(b, 2)),

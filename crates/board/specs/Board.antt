@@ -7,10 +7,9 @@ use lib.Dec.{ltb, eqb}
 use Rattle.laws.specs.Scan.{all}
 use Rattle.laws.specs.Refusals.{first}
 use Rattle.frame.specs.Heading.{headingFields}
-use Rattle.collector.specs.declared.Collector.{Collector}
-use Rattle.collector.specs.declared.Offered.{Offered}
-use Rattle.collector.specs.Places.{blank, freed}
-use Rattle.collector.specs.Collector.{nothing, good, offered, released, answered, copied}
+use Rattle.collector.specs.declared.Holdings.{Holdings}
+use Rattle.collector.specs.declared.Outcome.{Outcome}
+use Rattle.collector.specs.Layout.{noHoldings, blankHolding, madeFree, sound, offerGives, releaseGives, copyGives, copyLeaves}
 use Rattle.stories.specs.declared.Shown.{Shown}
 use Rattle.stories.specs.Tales.{fair, zeros}
 use Rattle.stories.specs.Stories.{noStories, takenIn, takenOutput}
@@ -19,28 +18,28 @@ use Rattle.board.specs.declared.Heard.{Heard}
 
 -- nothing was heard
 abbrev pub quietBoard : Board
-quietBoard = record { collector = nothing; stories = noStories }
+quietBoard = record { collector = noHoldings; stories = noStories }
 
 -- not 28: collector and stories are records that hearing can leave
 unfoldable pub goodBoard : Board → Bool
-goodBoard b = good (b .collector .places) && all fair (b .stories .tales)
+goodBoard b = sound (b .collector) && all fair (b .stories .tales)
 
 -- ---- room: where other pairs hold all four places, the first place is made free and goes last, so that each gives way in turn
-unfoldable pub roomMade : Collector → Collector
-roomMade c = record { places = drop 1 (c .places) ++ (freed (getD (c .places) 0 blank) ∷ []) }
+unfoldable pub roomMade : Holdings → Holdings
+roomMade c = record { places = drop 1 (c .places) ++ (madeFree (getD (c .places) 0 blankHolding) ∷ []) }
 
 -- the collector that the frame is offered to
-unfoldable pub readyFor : Collector → List ℕ → Collector
-readyFor c f = cond (eqb (offered c f .answer) 16) (roomMade c) c
+unfoldable pub readyFor : Holdings → List ℕ → Holdings
+readyFor c f = cond (eqb (offerGives c f .answer) 16) (roomMade c) c
 
 -- what it answers and leaves
-abbrev pub offeredAt : Collector → List ℕ → Offered
-offeredAt c f = offered (readyFor c f) f
+abbrev pub offeredAt : Holdings → List ℕ → Outcome
+offeredAt c f = offerGives (readyFor c f) f
 
 -- ---- a packet became whole
 -- its bytes, as a copy gives them
-unfoldable pub packetIn : Collector → ℕ → ℕ → List ℕ
-packetIn c l v = take (answered c l v 250 .length) (copied c l v (zeros 250))
+unfoldable pub packetIn : Holdings → ℕ → ℕ → List ℕ
+packetIn c l v = take (copyGives c l v 250 .length) (copyLeaves c l v (zeros 250))
 
 -- the packet that frame f made whole
 abbrev pub packetOf : Board → List ℕ → List ℕ
@@ -66,7 +65,7 @@ wholeHeard b f room =
       number = shownOf b f room .number;
       board =
           record {
-            collector = released (offeredAt (b .collector) f .collector) (headingFields f .level) (headingFields f .version) .collector;
+            collector = releaseGives (offeredAt (b .collector) f .collector) (headingFields f .level) (headingFields f .version) .collector;
             stories = shownOf b f room .stories;
           };
     }

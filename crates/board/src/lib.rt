@@ -3,16 +3,16 @@ ghost use mathlib.Core.Path.{_≡_};
 ghost use mathlib.Core.Bool.{cond};
 ghost use lib.ListN.{length};
 ghost use lib.Dec.{eqb};
-ghost use Rattle.collector.specs.Collector.{offered as offeredTo};
+ghost use Rattle.collector.specs.Layout.{offerGives};
 ghost use Rattle.stories.specs.Stories.{takenOutput};
 ghost use Rattle.board.specs.Board.{quietBoard, roomMade, offeredAt, packetOf, unheard as unheardWith, wholeHeard, heardOf, heardOutput};
-use collector::Collector;
-use collector::Offered;
+use collector::Holdings;
+use collector::Outcome;
 use stories::Stories;
 
 // What a board keeps: the packets being collected, and the stories that it waits for.
 pub struct Board {
-    pub collector: Collector,
+    pub collector: Holdings,
     pub stories: Stories,
 }
 
@@ -39,7 +39,7 @@ pub fn quiet() -> Board
 }
 
 // An answer with nothing shown.
-fn unheard(answer: u8, collector: Collector, stories: Stories) -> Heard
+fn unheard(answer: u8, collector: Holdings, stories: Stories) -> Heard
     ensures { λ r. ⌜ r ≡ unheardWith answer (record { collector = collector; stories = stories }) ⌝ }
 {
     let number = [0u8; 35];
@@ -65,7 +65,7 @@ fn level_with(answer: u8, level: u8) -> u8
 }
 
 // The frame made its pair's packet whole: it is copied, the pair released, and the packet taken into the stories.
-fn take_whole(board: Board, frame: &[u8], offered: Offered, out: &mut [u8]) -> Heard
+fn take_whole(board: Board, frame: &[u8], offered: Outcome, out: &mut [u8]) -> Heard
     requires { ⌜ (offered ≡ offeredAt (board .collector) (now frame)) × (offered .answer ≡ 1) ⌝ }
     ensures answer { λ r. ⌜ r ≡ wholeHeard board (now (frame .entry)) (length (now (out .entry))) ⌝ }
     ensures output { λ _. ⌜ now (out .exit) ≡ takenOutput (board .stories) (packetOf board (now (frame .entry))) (now (out .entry)) ⌝ }
@@ -95,7 +95,7 @@ fn take_whole(board: Board, frame: &[u8], offered: Offered, out: &mut [u8]) -> H
 }
 
 // The collector with its first place free, and behind the others.
-fn make_room(c: Collector) -> Collector
+fn make_room(c: Holdings) -> Holdings
     ensures { λ r. ⌜ r ≡ roomMade c ⌝ }
 {
     let mut first = c.places[0];
@@ -112,8 +112,8 @@ fn make_room(c: Collector) -> Collector
 }
 
 // The offer as it was; where other pairs hold every place one gives way, and the frame is offered again.
-fn offer_with_room(c: Collector, frame: &[u8], first: Offered) -> Offered
-    requires { ⌜ first ≡ offeredTo c (now frame) ⌝ }
+fn offer_with_room(c: Holdings, frame: &[u8], first: Outcome) -> Outcome
+    requires { ⌜ first ≡ offerGives c (now frame) ⌝ }
     ensures { λ r. ⌜ r ≡ offeredAt c (now (frame .entry)) ⌝ }
 {
     if first.answer == 16 {

@@ -2,7 +2,6 @@
 use mathlib.Core.Path.{_≡_, refl, sym, ap, ap₂, _∙_}
 use mathlib.Core.Bool.{Bool, true, false, not, _&&_}
 use Prim.Native.Nat.{ℕ, zero, suc, _+_, _*_, _<_, _≤_}
-use native.Mathlib.Numerals.{add-one}
 use native.Mathlib.Omega.{arith}
 use lib.ListN.{length, set, length-set, getD-replicate, List·getD-eq-default}
 use lib.Seq.{getD-set-same, getD-set-other}
@@ -10,18 +9,14 @@ use lib.Dec.{ltb, eqb}
 use borrow.Author.Tests.{lt-ltb, eqb-true, eqb-false, ltb-true, ltb-false}
 use Rattle.laws.specs.Below.{below}
 use Rattle.laws.proofs.Below.{below-yes, below-no}
-use Rattle.laws.proofs.Cases.{and-yes, and-no, and-left, and-right}
+use Rattle.laws.proofs.Cases.{and-no, and-left, and-right}
 use Rattle.laws.proofs.Elements.{by-test}
 use Rattle.frame.specs.declared.Number.{Number}
 use Rattle.collector.specs.declared.Place.{Place}
 use Rattle.collector.specs.declared.Piece.{Piece}
 use Rattle.collector.specs.Places.{noMarks, marked, astray, marksBelow, complete, shaped, stored, takenFor, freed}
 
--- ---- one number more
-pub below-next : (n : ℕ) (f : ℕ → Bool) → below n f ≡ true → f n ≡ true → below (n + 1) f ≡ true
-unfolding below
-below-next n f e t = rw (add-one n) (and-yes _ t ∙ e)
-
+-- ---- tests below a number
 -- two tests that are the same at each number below
 below-same : (n : ℕ) (f g : ℕ → Bool) → ((k : ℕ) → k < n → f k ≡ g k) → below n f ≡ below n g
 unfolding below
@@ -79,10 +74,6 @@ mark-past : (p : Place) (m : Number) → length (p .marks) ≡ 63 → 63 ≤ m .
 mark-past p m l h = List·getD-eq-default (p .marks) false {n = m .0} (omega arith)
 
 -- ---- all below the total
-pub below-total : (p : Place) (n : Number) → n .0 < p .total .0 → astray p n ≡ false
-unfolding astray
-below-total p n h = and-no _ (ap not (lt-ltb _ _ h))
-
 stored-astray : (p : Place) (x : Piece) → x .heading .number .0 < p .total .0 → (n : Number) → astray (stored p x) n ≡ astray p n
 unfolding astray stored
 stored-astray p x h n =
@@ -114,7 +105,3 @@ total-over p l h = below-no (p .total .0) _ 63 h (mark-past p (record { 0 = 63 }
 pub one-missing : (p : Place) (n : Number) → n .0 < p .total .0 → marked p n ≡ false → complete p ≡ false
 unfolding complete
 one-missing p n h e = below-no (p .total .0) _ (n .0) h e
-
-pub one-astray : (p : Place) (n : Number) → n .0 < 63 → astray p n ≡ true → marksBelow p ≡ false
-unfolding marksBelow
-one-astray p n h e = below-no 63 _ (n .0) h (ap not e)

@@ -1,11 +1,13 @@
 // The collector: frames in any order, with repeats, become packets; a pair is declared whole or spoiled once, and again only if a
 // contradiction cleared it.
 ghost use mathlib.Core.Path.{_≡_};
+ghost use mathlib.Core.Bool.{true, _&&_};
 ghost use Prim.Native.Nat.{_+_, _<_};
 ghost use lib.ListN.{length, drop};
 ghost use Rattle.laws.specs.Scan.{all};
 ghost use Rattle.collector.specs.Places.{Small, pairsApart};
-ghost use Rattle.collector.specs.Collector.{nothing, good, indexOfPair, indexOfFree, put, pieceWith, kept, begun, takenIn, offered, released, answered, copied};
+ghost use Rattle.collector.specs.Collector.{good, indexOfPair, indexOfFree, put, pieceWith, kept, begun, takenIn};
+ghost use Rattle.collector.specs.Layout.{topClear, topsClear, asPlace, asCollector, asOffered, noHoldings, offerGives, releaseGives, copyGives, copyLeaves};
 
 mod places;
 mod whole;
@@ -14,7 +16,28 @@ pub use frame::Heading;
 pub use frame::Number;
 pub use frame::Total;
 
-// Room for one packet: the pair and total that it is held for, a mark for each number held, and the bytes.
+// Room for one packet: the pair and total that it is held for, bit k for each number k held (the top bit is 0), and the bytes.
+pub struct Holding {
+    pub held: bool,
+    pub level: u8,
+    pub version: u8,
+    pub total: Total,
+    pub marks: u64,
+    pub bytes: [u8; 252],
+}
+
+// The packets being collected.
+pub struct Holdings {
+    pub places: [Holding; 4],
+}
+
+// What an offer or a release gives back: its answer, and the holdings then.
+pub struct Outcome {
+    pub answer: u8,
+    pub collector: Holdings,
+}
+
+// A place as people read it, with 63 marks: the definitions speak of it, and a holding is seen as one. No function takes it.
 pub struct Place {
     pub held: bool,
     pub level: u8,
@@ -24,7 +47,7 @@ pub struct Place {
     pub bytes: [u8; 252],
 }
 
-// The packets being collected.
+// Four of them.
 pub struct Collector {
     pub places: [Place; 4],
 }
@@ -38,7 +61,7 @@ pub struct Piece {
     pub d: u8,
 }
 
-// What an offer or a release gives back: its answer, and the collector then.
+// An answer, and the collector then.
 pub struct Offered {
     pub answer: u8,
     pub collector: Collector,
@@ -51,17 +74,17 @@ pub struct Copied {
 }
 
 // A collector that holds nothing.
-pub fn empty() -> Collector
-    ensures { λ r. ⌜ r ≡ nothing ⌝ }
+pub fn empty() -> Holdings
+    ensures { λ r. ⌜ r ≡ noHoldings ⌝ }
 {
     let p = places::never_taken();
-    Collector { places: [p; 4] }
+    Holdings { places: [p; 4] }
 }
 
 // No place after `i` is held for the pair of `p`.
-fn alone(c: Collector, p: Place, i: usize) -> bool
+fn alone(c: Holdings, p: Holding, i: usize) -> bool
     requires { ⌜ i < 4 ⌝ }
-    ensures { λ r. ⌜ r ≡ all (pairsApart p) (drop (i + 1) (c .places)) ⌝ }
+    ensures { λ r. ⌜ r ≡ all (pairsApart (asPlace p)) (drop (i + 1) (asCollector c .places)) ⌝ }
 {
     let mut j = i + 1;
     while j < 4 {
@@ -74,10 +97,28 @@ fn alone(c: Collector, p: Place, i: usize) -> bool
     true
 }
 
-// Whether the record is one that offers and releases can leave.
-fn is_good(c: Collector) -> bool
-    ensures { λ r. ⌜ r ≡ good (c .places) ⌝ }
+// No place, free or held, has the top bit of its marks set.
+fn tops_clear(c: Holdings) -> bool
+    ensures { λ r. ⌜ r ≡ topsClear c ⌝ }
 {
+    let mut i = 0;
+    while i < 4 {
+        let p = c.places[i];
+        if !places::is_clear(p) {
+            return false;
+        }
+        i += 1;
+    }
+    true
+}
+
+// Whether the record is one that offers and releases can leave.
+fn is_good(c: Holdings) -> bool
+    ensures { λ r. ⌜ r ≡ (topsClear c && good (asCollector c .places)) ⌝ }
+{
+    if !tops_clear(c) {
+        return false;
+    }
     let mut i = 0;
     while i < 4 {
         let p = c.places[i];
@@ -93,8 +134,8 @@ fn is_good(c: Collector) -> bool
 }
 
 // Where the pair is held; 4 where it isn't.
-fn index_of(c: Collector, level: u8, version: u8) -> usize
-    ensures { λ r. ⌜ r ≡ indexOfPair level version (c .places) ⌝ }
+fn index_of(c: Holdings, level: u8, version: u8) -> usize
+    ensures { λ r. ⌜ r ≡ indexOfPair level version (asCollector c .places) ⌝ }
 {
     let mut i = 0;
     while i < 4 {
@@ -108,8 +149,8 @@ fn index_of(c: Collector, level: u8, version: u8) -> usize
 }
 
 // The first free place; 4 where there is none.
-fn first_free(c: Collector) -> usize
-    ensures { λ r. ⌜ r ≡ indexOfFree (c .places) ⌝ }
+fn first_free(c: Holdings) -> usize
+    ensures { λ r. ⌜ r ≡ indexOfFree (asCollector c .places) ⌝ }
 {
     let mut j = 0;
     while j < 4 {
@@ -123,8 +164,10 @@ fn first_free(c: Collector) -> usize
 }
 
 // The collector with another place at `i`, as it was where it has none.
-fn put_place(c: Collector, i: usize, p: Place) -> Collector
-    ensures { λ r. ⌜ r ≡ put c i p ⌝ }
+fn put_place(c: Holdings, i: usize, p: Holding) -> Holdings
+    requires { ⌜ (topClear p ≡ true) × (topsClear c ≡ true) ⌝ }
+    ensures { λ r. ⌜ asCollector r ≡ put (asCollector c) i (asPlace p) ⌝ }
+    ensures top { λ r. ⌜ topsClear r ≡ true ⌝ }
 {
     if i < 4 {
         let mut d = c;
@@ -135,22 +178,24 @@ fn put_place(c: Collector, i: usize, p: Place) -> Collector
 }
 
 // The collector with the piece kept in place `i`, which was `p`.
-fn keep_in(c: Collector, i: usize, p: Place, x: Piece) -> Offered
-    requires { ⌜ Small x ⌝ }
-    ensures { λ r. ⌜ r ≡ kept c i p x ⌝ }
+fn keep_in(c: Holdings, i: usize, p: Holding, x: Piece) -> Outcome
+    requires { ⌜ (Small x) × (topClear p ≡ true) × (topsClear c ≡ true) ⌝ }
+    ensures { λ r. ⌜ asOffered r ≡ kept (asCollector c) i (asPlace p) x ⌝ }
+    ensures top { λ r. ⌜ topsClear (r .collector) ≡ true ⌝ }
 {
     let q = places::store(p, x);
     let d = put_place(c, i, q);
-    Offered {
+    Outcome {
         answer: places::state_of(q),
         collector: d,
     }
 }
 
 // The collector with place `i`, which was `p`, cleared and taken afresh, and the piece kept in it: 3 in place of 0.
-fn begin_again(c: Collector, i: usize, p: Place, x: Piece) -> Offered
-    requires { ⌜ Small x ⌝ }
-    ensures { λ r. ⌜ r ≡ begun c i x ⌝ }
+fn begin_again(c: Holdings, i: usize, p: Holding, x: Piece) -> Outcome
+    requires { ⌜ (Small x) × (topsClear c ≡ true) ⌝ }
+    ensures { λ r. ⌜ asOffered r ≡ begun (asCollector c) i x ⌝ }
+    ensures top { λ r. ⌜ topsClear (r .collector) ≡ true ⌝ }
 {
     let mut o = keep_in(c, i, places::take(p, x), x);
     if o.answer == 0 {
@@ -159,9 +204,10 @@ fn begin_again(c: Collector, i: usize, p: Place, x: Piece) -> Offered
     o
 }
 
-fn take_in(c: Collector, x: Piece) -> Offered
-    requires { ⌜ Small x ⌝ }
-    ensures { λ r. ⌜ r ≡ takenIn c x ⌝ }
+fn take_in(c: Holdings, x: Piece) -> Outcome
+    requires { ⌜ (Small x) × (topsClear c ≡ true) ⌝ }
+    ensures { λ r. ⌜ asOffered r ≡ takenIn (asCollector c) x ⌝ }
+    ensures top { λ r. ⌜ topsClear (r .collector) ≡ true ⌝ }
 {
     let i = index_of(c, x.heading.level, x.heading.version);
     if i < 4 {
@@ -173,7 +219,7 @@ fn take_in(c: Collector, x: Piece) -> Offered
         if why == 3 {
             return begin_again(c, i, p, x);
         }
-        return Offered {
+        return Outcome {
             answer: why,
             collector: c,
         };
@@ -183,25 +229,25 @@ fn take_in(c: Collector, x: Piece) -> Offered
         let q = c.places[j];
         return keep_in(c, j, places::take(q, x), x);
     }
-    Offered {
+    Outcome {
         answer: 16,
         collector: c,
     }
 }
 
 // Takes a frame in: 28, 26, 12, 13, 14, 15, 2 or 16 where it isn't kept, else 0, 1, 3 or 17 by what its pair is now.
-pub fn offer(collector: Collector, frame: &[u8]) -> Offered
-    ensures { λ r. ⌜ r ≡ offered collector (now (frame .entry)) ⌝ }
+pub fn offer(collector: Holdings, frame: &[u8]) -> Outcome
+    ensures { λ r. ⌜ r ≡ offerGives collector (now (frame .entry)) ⌝ }
 {
     if !is_good(collector) {
-        return Offered {
+        return Outcome {
             answer: 28,
             collector: collector,
         };
     }
     let h = frame::heading_of(frame);
     if h.answer != 0 {
-        return Offered {
+        return Outcome {
             answer: h.answer,
             collector: collector,
         };
@@ -223,11 +269,11 @@ fn piece_of(heading: Heading, frame: &[u8]) -> Piece
 }
 
 // Makes the pair's place free, bytes and marks as they were: 28, 18, else 0.
-pub fn release(collector: Collector, level: u8, version: u8) -> Offered
-    ensures { λ r. ⌜ r ≡ released collector level version ⌝ }
+pub fn release(collector: Holdings, level: u8, version: u8) -> Outcome
+    ensures { λ r. ⌜ r ≡ releaseGives collector level version ⌝ }
 {
     if !is_good(collector) {
-        return Offered {
+        return Outcome {
             answer: 28,
             collector: collector,
         };
@@ -236,21 +282,21 @@ pub fn release(collector: Collector, level: u8, version: u8) -> Offered
     if i < 4 {
         let p = collector.places[i];
         let c = put_place(collector, i, places::make_free(p));
-        return Offered {
+        return Outcome {
             answer: 0,
             collector: c,
         };
     }
-    Offered {
+    Outcome {
         answer: 18,
         collector: collector,
     }
 }
 
 // Copies the pair's packet to the start of `out`: 28, 18, 10, else 0 and the packet's size.
-pub fn copy(collector: Collector, level: u8, version: u8, out: &mut [u8]) -> Copied
-    ensures { λ r. ⌜ r ≡ answered collector level version (length (now (out .entry))) ⌝ }
-    ensures bytes { λ r. ⌜ now (out .exit) ≡ copied collector level version (now (out .entry)) ⌝ }
+pub fn copy(collector: Holdings, level: u8, version: u8, out: &mut [u8]) -> Copied
+    ensures { λ r. ⌜ r ≡ copyGives collector level version (length (now (out .entry))) ⌝ }
+    ensures bytes { λ r. ⌜ now (out .exit) ≡ copyLeaves collector level version (now (out .entry)) ⌝ }
 {
     if !is_good(collector) {
         return Copied {

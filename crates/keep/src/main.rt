@@ -3,14 +3,14 @@
 // packet that is whole, a byte: 0, and behind it the record's 256 bytes and the 256 of the summary then; or 36 where the shelf is full.
 ghost use mathlib.Core.Path.{_≡_};
 ghost use lib.ListN.{length};
-use collector::Collector;
+use collector::Holdings;
 use libc::STDIN_FILENO;
 use libc::STDOUT_FILENO;
 use receiver::Receiver;
 
 // The collector so far, the place of it that gives way next, and how many bytes the shelf has.
 struct Keeping {
-    collector: Collector,
+    collector: Holdings,
     turn: usize,
     length: usize,
 }
@@ -85,7 +85,7 @@ fn take_whole(k: Keeping, frame: &[u8], shelf: &mut [u8], summary: &mut [u8]) ->
 }
 
 // The collector with one place free.
-fn with_room(c: Collector, turn: usize) -> Collector {
+fn with_room(c: Holdings, turn: usize) -> Holdings {
     let p = c.places[turn % 4];
     collector::release(c, p.level, p.version).collector
 }

@@ -1,5 +1,5 @@
 // Lists the frames that air bytes on standard input carry: a line for each, with the collector's answer, and their count at the end.
-use collector::Collector;
+use collector::Holdings;
 use libc::STDIN_FILENO;
 use libc::STDOUT_FILENO;
 use receiver::Receiver;
@@ -7,7 +7,7 @@ use receiver::Receiver;
 // The receiver and the collector so far, how many frames came, and whether the input has ended.
 struct Listing {
     receiver: Receiver,
-    collector: Collector,
+    collector: Holdings,
     frames: u64,
     ended: bool,
 }
@@ -24,7 +24,7 @@ fn begin() -> Listing {
 }
 
 // Offers a frame and prints its line: sixteen digits, a space, an answer of at most three, the line's end.
-fn show(c: Collector, frame: &[u8]) -> Collector {
+fn show(c: Holdings, frame: &[u8]) -> Holdings {
     let offered = collector::offer(c, frame);
     let mut line = [0u8; 21];
     let n = lines::frame_line(frame, offered.answer, &mut line);
@@ -35,7 +35,7 @@ fn show(c: Collector, frame: &[u8]) -> Collector {
 }
 
 // The first n frames of the receiver's output, in order.
-fn show_all(c: Collector, out: &[u8], n: usize) -> Collector {
+fn show_all(c: Holdings, out: &[u8], n: usize) -> Holdings {
     let mut held = c;
     let mut k: usize = 0;
     while k < out.len() / 8 {

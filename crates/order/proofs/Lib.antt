@@ -18,3 +18,4 @@ pub mod Round
 pub mod Rounded
 pub mod Only
 pub mod Beyond
+pub mod Numbered

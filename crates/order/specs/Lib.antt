@@ -2,3 +2,4 @@ pub mod Held
 pub mod Given
 pub mod Rounds
 pub mod Examples
+pub mod Numbered

@@ -1,6 +1,6 @@
 -- What a board answers and leaves, for every argument: each number exactly in its case, a refusal changes nothing, and a clearing loses no part. Assumes nothing.
 use mathlib.Core.Path.{_≡_, refl, sym, ap, _∙_}
-use mathlib.Core.List.{List, [], _∷_, _++_}
+use mathlib.Core.List.{List, [], _∷_, _++_, map}
 use mathlib.Core.Bool.{true, false, true≢false, not}
 use mathlib.Core.Logic.{⊎-elim}
 use Prim.Native.Nat.{ℕ}
@@ -17,12 +17,12 @@ use Rattle.frame.specs.Heading.{refusals}
 use Rattle.promises.specs.Exactly.{Exactly}
 use Rattle.promises.proofs.Answers.{exactly}
 use Rattle.promises.proofs.Single.{one-outcome}
-use Rattle.collector.specs.declared.Place.{Place}
-use Rattle.collector.specs.declared.Collector.{Collector}
-use Rattle.collector.specs.declared.Offered.{Offered}
-use Rattle.collector.specs.Places.{blank, freed}
-use Rattle.collector.specs.Collector.{isHeld, pieceOf, itsPlace, takeCases as offerTakes, offerCases, offered}
-use Rattle.collector.proofs.Calls.{offer-apart}
+use Rattle.collector.specs.declared.Holding.{Holding}
+use Rattle.collector.specs.declared.Holdings.{Holdings}
+use Rattle.collector.specs.declared.Outcome.{Outcome}
+use Rattle.collector.specs.Collector.{isHeld, pieceOf, itsPlace, takeCases as offerTakes}
+use Rattle.collector.specs.Layout.{asPlace, asCollector, blankHolding, madeFree, offerDue, offerGives}
+use Rattle.collector.proofs.Seen.{offer-answer, offer-apart}
 use Rattle.stories.specs.declared.Stories.{Stories}
 use Rattle.stories.specs.Stories.{takeCases, takeAnswer, takenBy, takenIn}
 use Rattle.board.specs.declared.Board.{Board}
@@ -78,16 +78,17 @@ clearing-keeps-parts b f room e =
 
 -- ---- never deaf
 -- 16 says that every place is held
-sixteen-full : (c : Collector) (f : List ℕ) → offered c f .answer ≡ 16 → all isHeld (c .places) ≡ true
-unfolding offered offerCases refusals offerTakes
-sixteen-full c f e = and-both (not (itsPlace c (pieceOf f) .held)) (all isHeld (c .places)) (only-due (offerCases c f) (offer-apart c f) 7 (omega arith) e .0) .1
+sixteen-full : (c : Holdings) (f : List ℕ) → offerGives c f .answer ≡ 16 → all isHeld (asCollector c .places) ≡ true
+unfolding offerDue refusals offerTakes
+sixteen-full c f e =
+    and-both (not (itsPlace (asCollector c) (pieceOf f) .held)) (all isHeld (asCollector c .places)) (only-due (offerDue c f) (offer-apart c f) 7 (omega arith) (sym (offer-answer c f) ∙ e) .0) .1
 
 -- and where room was made one is not
-room-free : (c : Collector) → all isHeld (roomMade c .places) ≡ false
-unfolding roomMade freed all
+room-free : (c : Holdings) → all isHeld (asCollector (roomMade c) .places) ≡ false
+unfolding roomMade all
 room-free c = behind (drop 1 (c .places))
   where
-    behind : (ps : List Place) → all isHeld (ps ++ (freed (getD (c .places) 0 blank) ∷ [])) ≡ false
+    behind : (ps : List Holding) → all isHeld (map asPlace (ps ++ (madeFree (getD (c .places) 0 blankHolding) ∷ []))) ≡ false
     behind [] = refl
     behind (p ∷ ps) = by-test (p .held) (λ t. and-yes _ t ∙ behind ps) (λ t. and-no _ t)
 
@@ -112,10 +113,10 @@ never-sixteen b f room e =
   where
     not-offered : offeredAt (b .collector) f .answer ≡ 16 → ⊥
     not-offered q =
-        by-test (eqb (offered (b .collector) f .answer) 16)
+        by-test (eqb (offerGives (b .collector) f .answer) 16)
         (λ t.
         let r = ready-again (b .collector) f (eqb-true _ 16 t) in
-        true≢false (sym (sixteen-full (roomMade (b .collector)) f (ap (λ (o : Offered). o .answer) (sym r) ∙ q)) ∙ room-free (b .collector)))
+        true≢false (sym (sixteen-full (roomMade (b .collector)) f (ap (λ (o : Outcome). o .answer) (sym r) ∙ q)) ∙ room-free (b .collector)))
         (λ t.
-        let n = eqb-false (offered (b .collector) f .answer) 16 t in
-        n (ap (λ (o : Offered). o .answer) (sym (ready-as-is (b .collector) f n)) ∙ q))
+        let n = eqb-false (offerGives (b .collector) f .answer) 16 t in
+        n (ap (λ (o : Outcome). o .answer) (sym (ready-as-is (b .collector) f n)) ∙ q))

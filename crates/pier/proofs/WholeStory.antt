@@ -18,8 +18,12 @@ use Rattle.air.specs.OnAir.{framesFor, framesOf, airedOf}
 use Rattle.receiver.specs.Receive.{freshReceiver}
 use Rattle.receiver.specs.Calls.{Call, AreFrames, allTaken, allFrames, delivered, inBounds}
 use Rattle.collector.specs.declared.Collector.{Collector}
-use Rattle.collector.specs.Collector.{nothing, released}
-use Rattle.order.specs.Held.{offerAll}
+use Rattle.collector.specs.declared.Holdings.{Holdings}
+use Rattle.collector.specs.Collector.{isFree}
+use Rattle.collector.specs.Layout.{noHoldings, releaseGives}
+use Rattle.collector.proofs.Seen.{empty-seen}
+use Rattle.order.specs.Held.{Good}
+use Rattle.order.specs.Numbered.{offerAllTo}
 use Rattle.order.proofs.Keeping.{empty-good}
 use Rattle.packet.specs.Reading.{textAnswer}
 use Rattle.packet.proofs.Accepted.{Accepted, accepted, text-there}
@@ -150,7 +154,7 @@ module _ (l : ℕ) (low : 1 ≤ l) (high : l ≤ 6) (lent : List ℕ) (room : 81
             let size : length (drop (k + 1) ps) ≡ n - (k + 1) = length-drop (k + 1) ps ∙ ap (λ (m : ℕ). m - (k + 1)) count in
             ap (λ (x : List (List ℕ)). x ++ (together ps ∷ [])) (shown-part (omega (arith, size, ap length e)))
 
-      shows : {k : ℕ} {bs qs : List (List ℕ)} (hs : List (List ℕ)) (v : ℕ) (c : Collector) → Parts n ds k bs qs → drop k ps ≡ qs → HeardParts n ds nine long numbers ps k hs
+      shows : {k : ℕ} {bs qs : List (List ℕ)} (hs : List (List ℕ)) (v : ℕ) (c : Holdings) → Parts n ds k bs qs → drop k ps ≡ qs → HeardParts n ds nine long numbers ps k hs
           → Idle c → ((i : ℕ) → i < length bs → Under 256 (getD bs i []))
           → shownAll out (record { collector = c; stories = takenAll (length out) hs }) (framesAll l v bs) ≡ toShow bs
       unfolding framesAll shownAll takenAll
@@ -166,7 +170,7 @@ module _ (l : ℕ) (low : 1 ≤ l) (high : l ≤ 6) (lent : List ℕ) (room : 81
           let s = takenAll (length out) hs in
           let g = packet-heard b l (v % 32) lent (u 0 (omega arith)) (goes-out b v (r .part)) c idle s out (all-fair (kept .shaped)) wide in
           let again = idle-again b l (v % 32) lent (u 0 (omega arith)) (goes-out b v (r .part)) c idle in
-          let d : Collector = released (offerAll c (framesOf b l (v % 32))) l (v % 32) .collector in
+          let d : Holdings = releaseGives (offerAllTo c (framesOf b l (v % 32))) l (v % 32) .collector in
           let next : drop (k + 1) ps ≡ qs = sym (drop-drop 1 k ps) ∙ ap (drop 1) e in
           let i = shows (b ∷ hs) (v + 1) d rs next (heard-next n ds nine long numbers ps k hs w b r' inside) again (λ j h. u (suc j) (omega arith)) in
           shown-append out (framesOf b l (v % 32)) (framesAll l (v + 1) bs) (record { collector = c; stories = s })
@@ -186,9 +190,13 @@ some-parts : (s : Story) (text : List ℕ) → 1 ≤ length (partTexts s text)
 unfolding parted
 some-parts s text = some-part (roomWith (s .codes)) (roomWith (s .codes)) (characters text)
 
-idle-nothing : Idle nothing
+idle-nothing : Idle noHoldings
 unfolding all
-idle-nothing = record { right = empty-good; nothing-held = refl }
+idle-nothing =
+    record {
+      right = record { clear = empty-seen .1; good = subst Good (sym (empty-seen .0)) empty-good };
+      nothing-held = ap (λ (c : Collector). all isFree (c .places)) (empty-seen .0);
+    }
 
 module _ (s : Story) (codes text : List ℕ) (space : ℕ) (y : Given s) (u : Under 256 text) (e : told s codes text space .answer ≡ 0) where
   zero-answer : toldAnswer s codes text space ≡ 0
@@ -232,5 +240,5 @@ whole-story s codes text space y u e l v low high lent room calls b d out wide =
     let some-packets : 1 ≤ length bs = omega (arith, as-many n (s .digits) q, some-parts s text) in
     let heard = back (framesAll l v bs) calls (all-frames l low high lent room n (s .digits) v q bytes) (some-frames l low high lent room n (s .digits) v q some-packets) b (d ∙ air-is l low high lent room n (s .digits) v q) in
     let shown = shows l low high lent room n (s .digits) (t .few) (omega (arith, y .long .digits-long)) (t .numbers) ps refl out wide (text-short s codes text space y u e)
-    [] v nothing q refl (heard-none n (s .digits) (t .few) (omega (arith, y .long .digits-long)) (t .numbers) ps) idle-nothing bytes in
+    [] v noHoldings q refl (heard-none n (s .digits) (t .few) (omega (arith, y .long .digits-long)) (t .numbers) ps) idle-nothing bytes in
     (heard .0, ap (shownAll out quietBoard) (heard .1) ∙ shown ∙ show-some l low high lent room n (s .digits) (t .few) (omega (arith, y .long .digits-long)) (t .numbers) ps refl out wide (text-short s codes text space y u e) bs some-packets ∙ ap (λ (x : List ℕ). x ∷ []) (whole-characters (roomWith (s .codes)) text (t .whole) .0))

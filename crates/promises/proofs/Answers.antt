@@ -1,5 +1,5 @@
 -- Demand 1: each number exactly in its case, and what a refusal leaves as it was. Assumes nothing.
-use mathlib.Core.Path.{_≡_}
+use mathlib.Core.Path.{_≡_, sym, subst}
 use mathlib.Core.Bool.{true, false}
 use mathlib.Core.List.{List}
 use Prim.Native.Nat.{ℕ}
@@ -15,11 +15,11 @@ use Rattle.receiver.specs.declared.Receiver.{Receiver}
 use Rattle.receiver.specs.Receive.{receivedOf, receiveCases, receiveAnswer, receivedInto}
 use Rattle.receiver.proofs.Cutting.{answer-is}
 use Rattle.receiver.proofs.Answers.{receive-apart, receive-refused}
-use Rattle.collector.specs.declared.Collector.{Collector}
-use Rattle.collector.specs.Places.{copyAnswer}
-use Rattle.collector.specs.Collector.{keeps, offerCases, offered, releaseCases, released, copiedCases, answered, copied}
-use Rattle.collector.proofs.Calls.{offer-apart, release-apart, copy-apart}
-use Rattle.order.proofs.Theorems.{refusal-keeps}
+use Rattle.collector.specs.declared.Holdings.{Holdings}
+use Rattle.collector.specs.Collector.{keeps}
+use Rattle.collector.specs.Layout.{offerDue, releaseDue, copyDue, offerGives, releaseGives, copyGives, copyLeaves}
+use Rattle.collector.proofs.Seen.{offer-answer, release-answer, copy-answer, offer-apart, release-apart, copy-apart}
+use Rattle.order.proofs.Numbered.{refused-as-it-was}
 use Rattle.promises.specs.Exactly.{Exactly}
 use Rattle.promises.proofs.Sent.{numbers-apart}
 
@@ -35,17 +35,17 @@ receive-exactly r d out = rw (answer-is r d out) (exactly (receiveCases r d out)
 pub answer-exact : ((frame : List ℕ) → Exactly (headingOf frame .answer) (refusals frame))
     × ((packet : List ℕ) (level version : ℕ) (out : List ℕ) → Exactly (airedOf packet level version out .answer) (cases packet level version out))
     × ((r : Receiver) (delivery out : List ℕ) → Exactly (receivedOf r delivery out .answer) (receiveCases r delivery out))
-    × ((c : Collector) (frame : List ℕ) → Exactly (offered c frame .answer) (offerCases c frame))
-    × ((c : Collector) (level version : ℕ) → Exactly (released c level version .answer) (releaseCases c level version))
-    × ((c : Collector) (level version room : ℕ) → Exactly (answered c level version room .answer) (copiedCases c level version room))
-unfolding headingOf airedOf answerOf offered released answered copyAnswer
+    × ((h : Holdings) (frame : List ℕ) → Exactly (offerGives h frame .answer) (offerDue h frame))
+    × ((h : Holdings) (level version : ℕ) → Exactly (releaseGives h level version .answer) (releaseDue h level version))
+    × ((h : Holdings) (level version room : ℕ) → Exactly (copyGives h level version room .answer) (copyDue h level version room))
+unfolding headingOf airedOf answerOf
 answer-exact = (
   λ f. exactly (refusals f) (refusals-apart f),
   λ p l v out. exactly (cases p l v out) (numbers-apart p l v out),
   receive-exactly,
-  λ c f. exactly (offerCases c f) (offer-apart c f),
-  λ c l v. exactly (releaseCases c l v) (release-apart c l v),
-  λ c l v n. exactly (copiedCases c l v n) (copy-apart c l v n),
+  λ h f. subst (λ (a : ℕ). Exactly a (offerDue h f)) (sym (offer-answer h f)) (exactly (offerDue h f) (offer-apart h f)),
+  λ h l v. subst (λ (a : ℕ). Exactly a (releaseDue h l v)) (sym (release-answer h l v)) (exactly (releaseDue h l v) (release-apart h l v)),
+  λ h l v n. subst (λ (a : ℕ). Exactly a (copyDue h l v n)) (sym (copy-answer h l v n)) (exactly (copyDue h l v n) (copy-apart h l v n)),
 )
 
 -- A refusal leaves everything as it was: a heading refused has fields of zero; a packet refused has no frame and the output as it was; a delivery
@@ -53,15 +53,15 @@ answer-exact = (
 pub refused-unchanged : ((frame : List ℕ) → (headingOf frame .answer ≡ 0 → ⊥) → headingOf frame .heading ≡ noHeading)
     × ((packet : List ℕ) (level version : ℕ) (out : List ℕ) → (airedOf packet level version out .answer ≡ 0 → ⊥) → (airedOf packet level version out .frames ≡ 0) × (airedInto packet level version out ≡ out))
     × ((r : Receiver) (delivery out : List ℕ) → (receivedOf r delivery out .answer ≡ 0 → ⊥) → (receivedOf r delivery out .frames ≡ 0) × (receivedOf r delivery out .receiver ≡ r) × (receivedInto r delivery out ≡ out))
-    × ((c : Collector) (frame : List ℕ) → keeps (offered c frame .answer) ≡ false → offered c frame .collector ≡ c)
-    × ((c : Collector) (level version : ℕ) → (released c level version .answer ≡ 0 → ⊥) → released c level version .collector ≡ c)
-    × ((c : Collector) (level version : ℕ) (out : List ℕ) → (answered c level version (length out) .answer ≡ 0 → ⊥) → (answered c level version (length out) .length ≡ 0) × (copied c level version out ≡ out))
+    × ((h : Holdings) (frame : List ℕ) → keeps (offerGives h frame .answer) ≡ false → offerGives h frame .collector ≡ h)
+    × ((h : Holdings) (level version : ℕ) → (releaseGives h level version .answer ≡ 0 → ⊥) → releaseGives h level version .collector ≡ h)
+    × ((h : Holdings) (level version : ℕ) (out : List ℕ) → (copyGives h level version (length out) .answer ≡ 0 → ⊥) → (copyGives h level version (length out) .length ≡ 0) × (copyLeaves h level version out ≡ out))
 unfolding headingOf airedOf airedInto
 refused-unchanged = (
   λ f z. if-no _ noHeading (ne-eqb _ _ z),
   λ p l v out z. (if-no _ 0 (ne-eqb _ _ z), if-no _ out (ne-eqb _ _ z)),
   receive-refused,
-  λ c. refusal-keeps c .0,
-  λ c. refusal-keeps c .1,
-  λ c. refusal-keeps c .2,
+  λ h. refused-as-it-was h .0,
+  λ h. refused-as-it-was h .1,
+  λ h. refused-as-it-was h .2,
 )

@@ -14,9 +14,9 @@ use Rattle.size.specs.Size.{packetSize}
 use Rattle.air.specs.OnAir.{framesFor, framesOf, sized, cases, answerOf, airedOf, airedInto}
 use Rattle.receiver.specs.Receive.{freshReceiver}
 use Rattle.receiver.specs.Calls.{Call, allTaken, allFrames, delivered, inBounds}
-use Rattle.collector.specs.declared.Collector.{Collector}
-use Rattle.collector.specs.Collector.{nothing, answered, copied}
-use Rattle.order.specs.Held.{offerAll}
+use Rattle.collector.specs.declared.Holdings.{Holdings}
+use Rattle.collector.specs.Layout.{noHoldings, copyGives, copyLeaves}
+use Rattle.order.specs.Numbered.{offerAllTo}
 use Rattle.packet.specs.declared.Fields.{Fields}
 use Rattle.packet.specs.declared.Opened.{Opened}
 use Rattle.packet.specs.Writing.{written}
@@ -24,7 +24,7 @@ use Rattle.packet.proofs.Accepted.{Accepted, accepted}
 use Rattle.trips.specs.Given.{Typed, packetOf, GivesBack}
 use Rattle.trips.proofs.Answers.{read-answer}
 use Rattle.trips.proofs.There.{packet-is, fields-come-back}
-use Rattle.promises.specs.Run.{answersTo, collected}
+use Rattle.promises.specs.Run.{answersFrom, collected}
 use Rattle.promises.proofs.Air.{air-comes-back}
 use Rattle.promises.proofs.Frames.{frames-come-back}
 
@@ -48,9 +48,9 @@ pub chain : (f : Fields) (codes body room : List ℕ) → Typed f body → writt
     → (lent : List ℕ) → length (packetOf f codes body room) ≤ length lent
     → (airedOf (packetOf f codes body room) level version out .answer ≡ 0)
     × (allTaken freshReceiver calls ≡ true)
-    × (answersTo nothing (allFrames freshReceiver calls) ≡ replicate (airedOf (packetOf f codes body room) level version out .frames - 1) 0 ++ (1 ∷ []))
-    × (answered (collected calls) level version (length lent) ≡ record { answer = 0; length = length (packetOf f codes body room) })
-    × GivesBack f codes body (take (length (packetOf f codes body room)) (copied (collected calls) level version lent))
+    × (answersFrom noHoldings (allFrames freshReceiver calls) ≡ replicate (airedOf (packetOf f codes body room) level version out .frames - 1) 0 ++ (1 ∷ []))
+    × (copyGives (collected calls) level version (length lent) ≡ record { answer = 0; length = length (packetOf f codes body room) })
+    × GivesBack f codes body (take (length (packetOf f codes body room)) (copyLeaves (collected calls) level version lent))
 chain f codes body room t e level version out low high v fits calls b d lent h =
     let p = packetOf f codes body room in
     let u = packet-is f codes body room t e .1 in
@@ -60,10 +60,10 @@ chain f codes body room t e level version out low high v fits calls b d lent h =
     let heard = air-comes-back p level version out u sent calls b d in
     let given = frames-come-back p level version out u sent in
     let got = given .1 lent h in
-    let same : collected calls ≡ offerAll nothing (framesOf p level version) = ap (λ fs. offerAll nothing fs) (heard .1) in
-    let answer = ap (λ (c : Collector). answered c level version (length lent)) same ∙ got .0 in
-    let copy : take (length p) (copied (collected calls) level version lent) ≡ p =
-    ap (λ (c : Collector). take (length p) (copied c level version lent)) same
+    let same : collected calls ≡ offerAllTo noHoldings (framesOf p level version) = ap (λ fs. offerAllTo noHoldings fs) (heard .1) in
+    let answer = ap (λ (c : Holdings). copyGives c level version (length lent)) same ∙ got .0 in
+    let copy : take (length p) (copyLeaves (collected calls) level version lent) ≡ p =
+    ap (λ (c : Holdings). take (length p) (copyLeaves c level version lent)) same
     ∙ ap (λ (x : List ℕ). take (length p) x) (got .1)
     ∙ take-at p (drop (length p) lent) (length p) refl in
-    (sent, heard .0, ap (answersTo nothing) (heard .1) ∙ given .0, answer, subst (GivesBack f codes body) (sym copy) back)
+    (sent, heard .0, ap (answersFrom noHoldings) (heard .1) ∙ given .0, answer, subst (GivesBack f codes body) (sym copy) back)

@@ -24,6 +24,12 @@ use Rattle.air.specs.OnAir.{framesFor, totalFor, withCheck, carried, framesFrom
 use Rattle.collector.specs.declared.Place.{Place}
 use Rattle.collector.specs.declared.Collector.{Collector}
 use Rattle.collector.specs.declared.Piece.{Piece}
+use Rattle.collector.specs.declared.Offered.{Offered}
+use Rattle.collector.specs.declared.Holdings.{Holdings}
+use Rattle.collector.specs.Layout.{topsClear, asCollector, noHoldings, offerGives, copyGives, copyLeaves}
+use Rattle.collector.proofs.Seen.{offer-same, copy-same, empty-seen}
+use Rattle.order.specs.Numbered.{offerAllTo}
+use Rattle.order.proofs.Numbered.{offers-carried}
 use Rattle.size.specs.Size.{packetSize}
 use Rattle.collector.specs.Whole.{passes}
 use Rattle.collector.specs.Places.{isPair, complete, joined, whole, copyCases, copyAnswer, copyBytes}
@@ -38,7 +44,7 @@ use Rattle.order.proofs.Running.{some-inj, none-some}
 use Rattle.order.proofs.Copying.{place-sound}
 use Rattle.order.proofs.Offering.{all-good, offer-on}
 use Rattle.order.proofs.Theorems.{holdings, answers}
-use Rattle.promises.specs.Run.{answersTo}
+use Rattle.promises.specs.Run.{answersTo, answersFrom}
 use Rattle.promises.proofs.Sent.{Taken, taken, frames-few}
 use Rattle.promises.proofs.Joined.{padFrom, pad-on, pad-four, behind, fill, size-is, passes-is, fill-small, carried-whole}
 use Rattle.promises.proofs.Pieces.{frameAt, pieceAt, none-due, piece-is, piecesFrom, pieces-are, pieces-on, given-in, given-out, total-in, not-come, bounded}
@@ -229,15 +235,40 @@ module _ (p : List ℕ) (l v : ℕ) (u : Under 256 p) (t : Taken p l v) where
         sym (k .1) ∙ ap (λ (a : ℕ). copyBytes a place out) z ∙ ap₂ (λ (xs : List ℕ) (n : ℕ). xs ++ drop n out) c size-of,
       )
 
--- Whatever packet, level and version the on-air writer takes: an empty collector that is offered the packet's frames in order answers 0 to each but
--- the last and 1 to the last; then copy, lent memory that is long enough, answers 0 with the packet's size and hands back the packet, the rest as it was.
-pub frames-come-back : (packet : List ℕ) (level version : ℕ) (out : List ℕ) → Under 256 packet → airedOf packet level version out .answer ≡ 0
+-- The same of the collector with 63 marks, which the definitions speak of.
+pub frames-seen : (packet : List ℕ) (level version : ℕ) (out : List ℕ) → Under 256 packet → airedOf packet level version out .answer ≡ 0
     → (answersTo nothing (framesOf packet level version) ≡ replicate (airedOf packet level version out .frames - 1) 0 ++ (1 ∷ []))
     × ((lent : List ℕ) → length packet ≤ length lent
     → (answered (offerAll nothing (framesOf packet level version)) level version (length lent) ≡ record { answer = 0; length = length packet })
     × (copied (offerAll nothing (framesOf packet level version)) level version lent ≡ packet ++ drop (length packet) lent))
 unfolding airedOf
-frames-come-back p l v out u e =
+frames-seen p l v out u e =
     let t = taken p l v out e in
     let n : cond (eqb (answerOf p l v out) 0) (framesFor (length p)) 0 ≡ framesFor (length p) = if-yes _ _ (eq-eqb _ _ e) in
     (all-answers p l v u t ∙ ap (λ (k : ℕ). replicate (k - 1) 0 ++ (1 ∷ [])) (sym n), all-copied p l v u t)
+
+-- ---- the answers in turn are those of the record seen
+pub answers-seen : (fs : List (List ℕ)) (h : Holdings) → topsClear h ≡ true → answersFrom h fs ≡ answersTo (asCollector h) fs
+unfolding answersFrom answersTo
+answers-seen [] h t = refl
+answers-seen (f ∷ fs) h t =
+    let e = offer-same h t f in
+    ap₂ (λ (n : ℕ) (l : List ℕ). n ∷ l) (ap (λ (o : Offered). o .answer) (e .0)) (answers-seen fs (offerGives h f .collector) (e .1) ∙ ap (λ (o : Offered). answersTo (o .collector) fs) (e .0))
+
+-- Whatever packet, level and version the on-air writer takes: an empty collector that is offered the packet's frames in order answers 0 to each but
+-- the last and 1 to the last; then copy, lent memory that is long enough, answers 0 with the packet's size and hands back the packet, the rest as it was.
+pub frames-come-back : (packet : List ℕ) (level version : ℕ) (out : List ℕ) → Under 256 packet → airedOf packet level version out .answer ≡ 0
+    → (answersFrom noHoldings (framesOf packet level version) ≡ replicate (airedOf packet level version out .frames - 1) 0 ++ (1 ∷ []))
+    × ((lent : List ℕ) → length packet ≤ length lent
+    → (copyGives (offerAllTo noHoldings (framesOf packet level version)) level version (length lent) ≡ record { answer = 0; length = length packet })
+    × (copyLeaves (offerAllTo noHoldings (framesOf packet level version)) level version lent ≡ packet ++ drop (length packet) lent))
+frames-come-back p l v out u e =
+    let fs = framesOf p l v in
+    let k = frames-seen p l v out u e in
+    let w = offers-carried fs noHoldings (empty-seen .1) in
+    let same : asCollector (offerAllTo noHoldings fs) ≡ offerAll nothing fs = w .0 ∙ ap (λ (c : Collector). offerAll c fs) (empty-seen .0) in (
+      answers-seen fs noHoldings (empty-seen .1) ∙ ap (λ (c : Collector). answersTo c fs) (empty-seen .0) ∙ k .0,
+      λ lent h.
+          let b = copy-same (offerAllTo noHoldings fs) (w .1) l v lent in
+          (b .0 ∙ ap (λ (c : Collector). answered c l v (length lent)) same ∙ k .1 lent h .0, b .1 ∙ ap (λ (c : Collector). copied c l v lent) same ∙ k .1 lent h .1),
+    )

@@ -10,7 +10,7 @@ use Rattle.laws.specs.Bits.{Under}
 use Rattle.air.specs.OnAir.{framesFor, airedOf, airedInto}
 use Rattle.receiver.specs.Receive.{freshReceiver}
 use Rattle.receiver.specs.Calls.{Call, allTaken, allFrames, delivered, inBounds}
-use Rattle.collector.specs.Collector.{nothing, answered, copied}
+use Rattle.collector.specs.Layout.{noHoldings, copyGives, copyLeaves}
 use Rattle.packet.specs.Writing.{written}
 use Rattle.trips.specs.Given.{Typed, packetOf, GivesBack}
 use Rattle.trips.proofs.Answers.{write-answer}
@@ -24,7 +24,7 @@ use Rattle.story.specs.Given.{Given}
 use Rattle.story.proofs.Answers.{tell-apart, join-apart, told-no, joined-no}
 use Rattle.story.proofs.Back.{sent}
 use Rattle.promises.specs.Exactly.{Exactly}
-use Rattle.promises.specs.Run.{answersTo, collected}
+use Rattle.promises.specs.Run.{answersFrom, collected}
 use Rattle.promises.proofs.Answers.{exactly}
 use Rattle.promises.proofs.Chain.{chain}
 use Rattle.promises.proofs.Single.{one-outcome}
@@ -113,9 +113,9 @@ pub each-part-on-air : (s : Story) (codes text : List ℕ) (space : ℕ) → Giv
     → (lent : List ℕ) → length packet ≤ length lent
     → (airedOf packet level version out .answer ≡ 0)
     × (allTaken freshReceiver calls ≡ true)
-    × (answersTo nothing (allFrames freshReceiver calls) ≡ replicate (airedOf packet level version out .frames - 1) 0 ++ (1 ∷ []))
-    × (answered (collected calls) level version (length lent) ≡ record { answer = 0; length = length packet })
-    × GivesBack f codes body (take (length packet) (copied (collected calls) level version lent))
+    × (answersFrom noHoldings (allFrames freshReceiver calls) ≡ replicate (airedOf packet level version out .frames - 1) 0 ++ (1 ∷ []))
+    × (copyGives (collected calls) level version (length lent) ≡ record { answer = 0; length = length packet })
+    × GivesBack f codes body (take (length packet) (copyLeaves (collected calls) level version lent))
 each-part-on-air s codes text space y u e k h =
     let room : List ℕ = replicate 250 0 in
     let f = partFields s k (getD (partTexts s text) k []) in
@@ -127,6 +127,6 @@ each-part-on-air s codes text space y u e k h =
     → (lent : List ℕ) → length packet ≤ length lent
     → (airedOf packet level version out .answer ≡ 0)
     × (allTaken freshReceiver calls ≡ true)
-    × (answersTo nothing (allFrames freshReceiver calls) ≡ replicate (airedOf packet level version out .frames - 1) 0 ++ (1 ∷ []))
-    × (answered (collected calls) level version (length lent) ≡ record { answer = 0; length = length packet })
-    × GivesBack f codes body (take (length packet) (copied (collected calls) level version lent))) (sym (q .2)) (chain f codes body room (q .0) (q .1))
+    × (answersFrom noHoldings (allFrames freshReceiver calls) ≡ replicate (airedOf packet level version out .frames - 1) 0 ++ (1 ∷ []))
+    × (copyGives (collected calls) level version (length lent) ≡ record { answer = 0; length = length packet })
+    × GivesBack f codes body (take (length packet) (copyLeaves (collected calls) level version lent))) (sym (q .2)) (chain f codes body room (q .0) (q .1))

@@ -1,7 +1,7 @@
 use mathlib.Core.Path.{sym, ap, _∙_}
 use borrow.Author.Tests.{not-true, not-false}
 use denote.Ref.{now}
-use Rattle.collector.specs.declared.Offered.{Offered}
+use Rattle.collector.specs.declared.Outcome.{Outcome}
 use Rattle.board.specs.Board.{unheard}
 use Rattle.board.proofs.Hearing.{bad-stories, bad-collector, no-room, not-whole, is-whole}
 use borrow.Author.Needs.{needs}
@@ -29,7 +29,7 @@ unheard-requires-2 c κs = search needs
 returns-2 : tie.Need-returns-2
 returns-2 c =
     let x = c .before .before .before .before .before .before .before .before .before .before .args in
-    let k = bad-collector (x .board) (now (x .frame)) (now (x .out)) (sym (c .before .before .before .before .before .is-good .ensures) ∙ not-false _ (c .before .before .before .before .if1 .left)) (ap (λ (o : Offered). o .answer) (sym (c .before .before .before .offer .ensures)) ∙ c .before .if2 .taken) in
+    let k = bad-collector (x .board) (now (x .frame)) (now (x .out)) (sym (c .before .before .before .before .before .is-good .ensures) ∙ not-false _ (c .before .before .before .before .if1 .left)) (ap (λ (o : Outcome). o .answer) (sym (c .before .before .before .offer .ensures)) ∙ c .before .if2 .taken) in
     (c .unheard2 .ensures ∙ k .0, k .1)
 
 unheard-requires-3 : tie.Need-unheard-requires-3
@@ -38,7 +38,7 @@ unheard-requires-3 c κs = search needs
 returns-3 : tie.Need-returns-3
 returns-3 c =
     let x = c .before .before .before .before .before .before .before .before .before .before .before .args in
-    let k = no-room (x .board) (now (x .frame)) (now (x .out)) (sym (c .before .before .before .before .before .before .is-good .ensures) ∙ not-false _ (c .before .before .before .before .before .if1 .left)) (λ z. c .before .before .if2 .left (ap (λ (o : Offered). o .answer) (c .before .before .before .before .offer .ensures) ∙ z)) (c .before .if3 .taken) in
+    let k = no-room (x .board) (now (x .frame)) (now (x .out)) (sym (c .before .before .before .before .before .before .is-good .ensures) ∙ not-false _ (c .before .before .before .before .before .if1 .left)) (λ z. c .before .before .if2 .left (ap (λ (o : Outcome). o .answer) (c .before .before .before .before .offer .ensures) ∙ z)) (c .before .if3 .taken) in
     (c .unheard3 .ensures ∙ k .0, k .1)
 
 offer-with-room-requires : tie.Need-offer-with-room-requires
@@ -52,8 +52,8 @@ returns-4 c =
     let x = c .before .before .before .before .before .before .before .before .before .before .before .before .before .before .before .args in
     let e = c .before .before .before .before .before .before .before .before .offer .ensures in
     let r = c .before .before .before .before .offer-with-room .ensures in
-    let k = not-whole (x .board) (now (x .frame)) (now (x .out)) (sym (c .before .before .before .before .before .before .before .before .before .before .is-good .ensures) ∙ not-false _ (c .before .before .before .before .before .before .before .before .before .if1 .left)) (λ z. c .before .before .before .before .before .before .if2 .left (ap (λ (o : Offered). o .answer) e ∙ z)) (c .before .before .before .before .before .if3 .left) (λ z. c .before .if4 .taken (ap (λ (o : Offered). o .answer) r ∙ z)) in
-    (c .unheard4 .ensures ∙ ap (λ (o : Offered). unheard (o .answer) (record { collector = o .collector; stories = x .board .stories })) r ∙ k .0, k .1)
+    let k = not-whole (x .board) (now (x .frame)) (now (x .out)) (sym (c .before .before .before .before .before .before .before .before .before .before .is-good .ensures) ∙ not-false _ (c .before .before .before .before .before .before .before .before .before .if1 .left)) (λ z. c .before .before .before .before .before .before .if2 .left (ap (λ (o : Outcome). o .answer) e ∙ z)) (c .before .before .before .before .before .if3 .left) (λ z. c .before .if4 .taken (ap (λ (o : Outcome). o .answer) r ∙ z)) in
+    (c .unheard4 .ensures ∙ ap (λ (o : Outcome). unheard (o .answer) (record { collector = o .collector; stories = x .board .stories })) r ∙ k .0, k .1)
 
 take-whole-requires : tie.Need-take-whole-requires
 take-whole-requires c κs = (c .before .before .before .before .offer-with-room .ensures, c .before .if4 .left)
@@ -66,7 +66,7 @@ returns-5 c =
     let x = c .before .before .before .before .before .before .before .before .before .before .before .before .before .before .before .before .before .before .args in
     let e = c .before .before .before .before .before .before .before .before .before .before .before .offer .ensures in
     let r = c .before .before .before .before .before .before .before .offer-with-room .ensures in
-    let k = is-whole (x .board) (now (x .frame)) (now (x .out)) (sym (c .before .before .before .before .before .before .before .before .before .before .before .before .before .is-good .ensures) ∙ not-false _ (c .before .before .before .before .before .before .before .before .before .before .before .before .if1 .left)) (λ z. c .before .before .before .before .before .before .before .before .before .if2 .left (ap (λ (o : Offered). o .answer) e ∙ z)) (c .before .before .before .before .before .before .before .before .if3 .left) (ap (λ (o : Offered). o .answer) (sym r) ∙ c .before .before .before .before .if4 .left) in
+    let k = is-whole (x .board) (now (x .frame)) (now (x .out)) (sym (c .before .before .before .before .before .before .before .before .before .before .before .before .before .is-good .ensures) ∙ not-false _ (c .before .before .before .before .before .before .before .before .before .before .before .before .if1 .left)) (λ z. c .before .before .before .before .before .before .before .before .before .if2 .left (ap (λ (o : Outcome). o .answer) e ∙ z)) (c .before .before .before .before .before .before .before .before .if3 .left) (ap (λ (o : Outcome). o .answer) (sym r) ∙ c .before .before .before .before .if4 .left) in
     (c .before .before .take-whole .ensures .0 ∙ k .0, c .before .before .take-whole .ensures .1 ∙ k .1)
 
 pub hear-spec : {M : Type 1} → statement M

@@ -1,7 +1,6 @@
 use mathlib.Core.Path.{ap}
 use mathlib.Core.List.{List}
-use Rattle.collector.specs.declared.Place.{Place}
-use Rattle.collector.specs.Places.{freed}
+use Rattle.collector.specs.declared.Holding.{Holding}
 use Rattle.laws.proofs.Elements.{length-mapped}
 use Rattle.board.specs.Board.{roomMade}
 use Rattle.board.proofs.Hearing.{room-made}
@@ -34,8 +33,8 @@ element-set-from-first : tie.Need-element-set-from-first
 element-set-from-first c = search needs
 
 returns : tie.Need-returns
-unfolding roomMade freed
-returns c = ap (λ (ps : List Place). record { places = ps }) (room-made (c .before .before .before .before .args .t1 .places) (search (needs, length-mapped)))
+unfolding roomMade
+returns c = ap (λ (ps : List Holding). record { places = ps }) (room-made (c .before .before .before .before .args .t1 .places) (search (needs, length-mapped)))
 
 pub make-room-spec : {M : Type 1} → statement M
 make-room-spec =

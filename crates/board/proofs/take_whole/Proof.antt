@@ -2,7 +2,7 @@
 use mathlib.Core.Path.{sym, ap, _∙_}
 use denote.Ref.{now}
 use Rattle.frame.specs.declared.Headed.{Headed}
-use Rattle.collector.specs.declared.Offered.{Offered}
+use Rattle.collector.specs.declared.Outcome.{Outcome}
 use Rattle.stories.specs.Tales.{zeros}
 use Rattle.board.specs.Board.{readyFor}
 use Rattle.board.proofs.Hearing.{heading-is, packet-copied, whole-output, whole-heard}
@@ -44,7 +44,7 @@ returns c =
     let f = now (x .frame) in
     let e = c .before .before .before .before .before .before .before .before .before .before .before .before .before .before .before .before .before .before .before .before .pre .0 in
     let h = c .before .before .before .before .before .before .before .before .before .before .before .before .before .before .before .before .before .heading-of .result .heading in
-    let eh = ap (λ (y : Headed). y .heading) (c .before .before .before .before .before .before .before .before .before .before .before .before .before .before .before .before .before .heading-of .ensures) ∙ heading-is (readyFor (x .board .collector) f) f (ap (λ (y : Offered). y .answer) (sym e) ∙ c .before .before .before .before .before .before .before .before .before .before .before .before .before .before .before .before .before .before .before .before .pre .1) in
+    let eh = ap (λ (y : Headed). y .heading) (c .before .before .before .before .before .before .before .before .before .before .before .before .before .before .before .before .before .heading-of .ensures) ∙ heading-is (readyFor (x .board .collector) f) f (ap (λ (y : Outcome). y .answer) (sym e) ∙ c .before .before .before .before .before .before .before .before .before .before .before .before .before .before .before .before .before .before .before .before .pre .1) in
     let p = c .before .before .before .before .before .before .before .part .result .now in
     let ep = packet-copied (x .offered .collector) (h .level) (h .version) (c .before .before .before .before .before .before .before .before .before .before .before .before .before .copy .result) _ p (c .before .before .before .before .before .before .before .before .before .before .before .before .before .copy .ensures .0) (c .before .before .before .before .before .before .before .before .before .before .before .before .before .copy .ensures .1) (c .before .before .before .before .before .before .before .part .ensures) in
     (whole-heard (x .board) f (now (x .out)) (x .offered) e h eh p ep (c .before .before .before .before .before .take-in .result) (c .before .before .before .before .before .before .before .before .before .before .before .release .result) (c .before .before .level-with .result) (c .before .before .before .before .before .take-in .ensures .0) (c .before .before .before .before .before .before .before .before .before .before .before .release .ensures) (c .before .before .level-with .ensures), c .before .before .before .before .before .take-in .ensures .1 ∙ whole-output (x .board) f (now (x .out)) (x .offered) e h eh p ep)

@@ -3,17 +3,19 @@ use mathlib.Core.Path.{_≡_, sym, ap, _∙_}
 use mathlib.Core.Bool.{not}
 use Prim.Native.Nat.{_+_, _-_, _≤_}
 use native.Mathlib.Omega.{arith}
-use lib.ListN.{length, drop}
+use mathlib.Core.List.{map}
+use lib.ListN.{length, drop, length-map, List·getD-map}
 use Rattle.laws.specs.Scan.{all}
 use Rattle.laws.proofs.Scan.{all-next, all-stop, all-end}
 use Rattle.laws.proofs.Elements.{length-mapped}
 use Rattle.collector.specs.Places.{pairsApart}
+use Rattle.collector.specs.Layout.{asPlace, asCollector}
 use borrow.Author.Needs.{needs}
 use Rattle.collector.proofs.alone.Statement.{statement}
 use Rattle.collector.proofs.alone.Tie as tie
 
 abbrev Inv-loop : tie.InvT-loop
-Inv-loop p i c j₀ j = (j ≤ 4) × (all (pairsApart p) (drop (i + 1) (c .places)) ≡ all (pairsApart p) (drop j (c .places)))
+Inv-loop p i c j₀ j = (j ≤ 4) × (all (pairsApart (asPlace p)) (drop (i + 1) (asCollector c .places)) ≡ all (pairsApart (asPlace p)) (drop j (asCollector c .places)))
 
 abbrev μ-loop : tie.MeasureT-loop
 μ-loop p i c j₀ j = 4 - j
@@ -36,10 +38,12 @@ same-pair-requires c κs = search needs
 returns : tie.Need-returns Inv-loop μ-loop
 returns c =
     let b = c .before .before .before .before in
-    let xs = b .before .args .t1 .places in
-    let f = pairsApart (b .before .args .p) in
-    let n : length xs ≡ 4 = search (needs, length-mapped) in
-    sym (b .loop .inv .1 ∙ all-stop f xs _ (b .loop .j) (omega arith) (ap not (sym (c .before .same-pair .ensures) ∙ c .if1 .taken)))
+    let ps = b .before .args .t1 .places in
+    let xs = map asPlace ps in
+    let f = pairsApart (asPlace (b .before .args .p)) in
+    let n : length ps ≡ 4 = search (needs, length-mapped) in
+    let m = length-map ps asPlace in
+    sym (b .loop .inv .1 ∙ all-stop f xs _ (b .loop .j) (omega arith) (ap f (List·getD-map asPlace ps (b .loop .j) _) ∙ ap not (sym (c .before .same-pair .ensures) ∙ c .if1 .taken)))
 
 add-j-2 : tie.Need-add-j-2 Inv-loop μ-loop
 add-j-2 c = search needs
@@ -50,17 +54,21 @@ loop-less c = search needs
 loop-again : tie.Need-loop-again Inv-loop μ-loop
 loop-again c =
     let b = c .before .before .before .before in
-    let xs = b .before .args .t1 .places in
-    let f = pairsApart (b .before .args .p) in
-    let n : length xs ≡ 4 = search (needs, length-mapped) in
-    (search needs, b .loop .inv .1 ∙ all-next f xs _ (b .loop .j) (omega arith) (ap not (sym (c .before .same-pair .ensures) ∙ c .if1 .left)))
+    let ps = b .before .args .t1 .places in
+    let xs = map asPlace ps in
+    let f = pairsApart (asPlace (b .before .args .p)) in
+    let n : length ps ≡ 4 = search (needs, length-mapped) in
+    let m = length-map ps asPlace in
+    (search needs, b .loop .inv .1 ∙ all-next f xs _ (b .loop .j) (omega arith) (ap f (List·getD-map asPlace ps (b .loop .j) _) ∙ ap not (sym (c .before .same-pair .ensures) ∙ c .if1 .left)))
 
 returns-2 : tie.Need-returns-2 Inv-loop μ-loop
 returns-2 c =
     let b = c .before in
-    let xs = b .before .args .t1 .places in
-    let n : length xs ≡ 4 = search (needs, length-mapped) in
-    sym (b .loop .inv .1 ∙ all-end (pairsApart (b .before .args .p)) xs (b .loop .j) (omega arith))
+    let ps = b .before .args .t1 .places in
+    let xs = map asPlace ps in
+    let n : length ps ≡ 4 = search (needs, length-mapped) in
+    let m = length-map ps asPlace in
+    sym (b .loop .inv .1 ∙ all-end (pairsApart (asPlace (b .before .args .p))) xs (b .loop .j) (omega arith))
 
 pub alone-spec : {M : Type 1} → statement M
 alone-spec =

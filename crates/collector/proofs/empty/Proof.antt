@@ -1,8 +1,8 @@
 -- `collector::empty` meets its contract. Assumes nothing.
 use mathlib.Core.Path.{ap}
 use mathlib.Core.List.{[], _∷_}
-use Rattle.collector.specs.declared.Place.{Place}
-use Rattle.collector.specs.declared.Collector.{Collector}
+use Rattle.collector.specs.declared.Holding.{Holding}
+use Rattle.collector.specs.declared.Holdings.{Holdings}
 use borrow.Author.Needs.{needs}
 use Rattle.collector.proofs.empty.Statement.{statement}
 use Rattle.collector.proofs.empty.Tie as tie
@@ -10,7 +10,7 @@ use Rattle.collector.proofs.empty.Tie as tie
 never-taken-requires : tie.Need-never-taken-requires
 never-taken-requires c κs = search needs
 
-abbrev four-of : Place → Collector
+abbrev four-of : Holding → Holdings
 four-of p = record { places = p ∷ p ∷ p ∷ p ∷ [] }
 
 returns : tie.Need-returns

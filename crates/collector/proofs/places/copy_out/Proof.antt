@@ -7,6 +7,7 @@ use native.Mathlib.Omega.{arith}
 use lib.ListN.{length, drop}
 use Rattle.collector.specs.Places.{state, whole}
 use Rattle.collector.proofs.OnePlace.{whole-is, not-whole, copy-18, copy-10, copy-0, within, size-here, taken-here}
+use Rattle.collector.specs.Layout.{asPlace}
 use borrow.Author.Needs.{needs}
 use Rattle.collector.proofs.places.copy_out.Statement.{statement}
 use Rattle.collector.proofs.places.copy_out.Tie as tie
@@ -15,7 +16,7 @@ state-of-requires : tie.Need-state-of-requires
 state-of-requires c κs = search needs
 
 returns : tie.Need-returns
-returns c = copy-18 _ _ (not-whole _ (λ (e : state (c .before .before .before .args .p) ≡ 1). c .if1 .taken (c .before .state-of .ensures ∙ e)))
+returns c = copy-18 _ _ (not-whole _ (λ (e : state (asPlace (c .before .before .before .args .p)) ≡ 1). c .if1 .taken (c .before .state-of .ensures ∙ e)))
 
 slice-aggregate-packet-size : tie.Need-slice-aggregate-packet-size
 slice-aggregate-packet-size c = search needs
@@ -25,15 +26,17 @@ packet-size-requires c κs = search needs
 
 returns-2 : tie.Need-returns-2
 returns-2 c =
-    let p = c .before .before .before .before .before .before .before .args .p in
-    let n : length (p .bytes) ≡ 252 = search needs in
+    let h = c .before .before .before .before .before .before .before .args .p in
+    let p = asPlace h in
+    let n : length (h .bytes) ≡ 252 = search needs in
     let w : whole p ≡ true = whole-is p (sym (c .before .before .before .before .before .state-of .ensures) ∙ c .before .before .before .before .if1 .left) in
     copy-10 p _ (c .before .before .before .before .before .before .before .pre .0) w (omega (arith, c .if2 .taken, c .before .packet-size .ensures, size-here p n (c .before .before .before .before .before .before .before .pre .1) w))
 
 write-out-requires : tie.Need-write-out-requires
 write-out-requires c κs =
-    let p = c .before .before .before .before .before .before .before .before .args .p in
-    let n : length (p .bytes) ≡ 252 = search needs in
+    let h = c .before .before .before .before .before .before .before .before .args .p in
+    let p = asPlace h in
+    let n : length (h .bytes) ≡ 252 = search needs in
     let w : whole p ≡ true = whole-is p (sym (c .before .before .before .before .before .before .state-of .ensures) ∙ c .before .before .before .before .before .if1 .left) in
     (omega (arith, c .before .before .packet-size .ensures, size-here p n (c .before .before .before .before .before .before .before .before .pre .1) w, within p n (c .before .before .before .before .before .before .before .before .pre .1) w, c .before .before .before .before .before .before .before .before .pre .1), omega (arith, c .before .if2 .left))
 
@@ -42,8 +45,9 @@ same-length c = search needs
 
 returns-3 : tie.Need-returns-3
 returns-3 c =
-    let p = c .before .before .before .before .before .before .before .before .before .before .before .args .p in
-    let n : length (p .bytes) ≡ 252 = search needs in
+    let h = c .before .before .before .before .before .before .before .before .before .before .before .args .p in
+    let p = asPlace h in
+    let n : length (h .bytes) ≡ 252 = search needs in
     let w : whole p ≡ true = whole-is p (sym (c .before .before .before .before .before .before .before .before .before .state-of .ensures) ∙ c .before .before .before .before .before .before .before .before .if1 .left) in
     let e = c .before .before .before .before .before .packet-size .ensures ∙ size-here p n (c .before .before .before .before .before .before .before .before .before .before .before .pre .1) w in
     copy-0 p _ (c .before .before .before .before .before .before .before .before .before .before .before .pre .0) w _ _ e (omega (arith, c .before .before .before .before .if2 .left)) (c .before .before .write-out .ensures ∙ ap (λ (l : List ℕ). l ++ drop (c .before .before .before .before .before .packet-size .result) (c .before .before .before .before .before .before .before .before .before .before .before .args .out .now)) (taken-here p n (c .before .before .before .before .before .before .before .before .before .before .before .pre .1) w _ e))

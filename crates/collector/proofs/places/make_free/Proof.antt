@@ -6,7 +6,7 @@ use Rattle.collector.proofs.places.make_free.Tie as tie
 
 returns : tie.Need-returns
 unfolding freed
-returns c = refl
+returns c = (refl, refl)
 
 pub make-free-spec : {M : Type 1} → statement M
 make-free-spec = tie.close (tie.spec returns)

@@ -3,6 +3,8 @@ use mathlib.Core.Path.{ap}
 use mathlib.Core.Bool.{Bool}
 use mathlib.Core.List.{List}
 use Rattle.collector.specs.Places.{stored}
+use Rattle.collector.specs.Layout.{asPlace}
+use borrow.Author.Tests.{ltb-true, lt-ltb}
 use borrow.Author.Needs.{needs}
 use Rattle.collector.proofs.places.store.Statement.{statement}
 use Rattle.collector.proofs.places.store.Tie as tie
@@ -13,8 +15,8 @@ cast-at c = search needs
 mul-at : tie.Need-mul-at
 mul-at c = search needs
 
-set-mark-requires : tie.Need-set-mark-requires
-set-mark-requires c κs = search needs
+with-mark-requires : tie.Need-with-mark-requires
+with-mark-requires c κs = (c .before .before .pre .0, ltb-true _ _ (c .before .before .pre .1))
 
 element-write-q : tie.Need-element-write-q
 element-write-q c = search needs
@@ -39,7 +41,12 @@ element-write-q-4 c = search needs
 
 returns : tie.Need-returns
 unfolding stored
-returns c = ap (λ (ms : List Bool). record { held = c .before .before .before .before .args .p .held; level = c .before .before .before .before .args .p .level; version = c .before .before .before .before .args .p .version; total = c .before .before .before .before .args .p .total; marks = ms; bytes = stored (c .before .before .before .before .args .p) (c .before .before .before .before .args .x) .bytes }) (c .set-mark .ensures)
+returns c =
+    let h = c .before .before .before .args .p in
+    let q = stored (asPlace h) (c .before .before .before .args .x) in (
+      ap (λ (ms : List Bool). record { held = h .held; level = h .level; version = h .version; total = h .total; marks = ms; bytes = q .bytes }) (c .with-mark .ensures .0),
+      lt-ltb _ _ (c .with-mark .ensures .1),
+    )
 
 pub store-spec : {M : Type 1} → statement M
 store-spec =
@@ -47,7 +54,7 @@ store-spec =
     (tie.spec
     cast-at
     mul-at
-    set-mark-requires
+    with-mark-requires
     element-write-q
     add-q
     element-write-q-2
