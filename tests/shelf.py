@@ -15,7 +15,8 @@ import time
 
 ROOT = os.path.join(os.path.dirname(os.path.abspath(__file__)), "..")
 sys.path.insert(0, os.path.dirname(os.path.abspath(__file__)))
-from model import on_air, shelf as model  # noqa: E402  (it stands beside this file)
+from compare import shelves  # noqa: E402  (it stands beside this file)
+from model import on_air, shelf as model  # noqa: E402  (so does this)
 
 KEEP, SHELF = (os.path.join(ROOT, "run", name) for name in ("keep", "shelf"))
 seed = random.Random(6)
@@ -26,23 +27,16 @@ def words(name):
     return subprocess.run([os.path.join(ROOT, "run/start"), "--words", name], stdout=subprocess.PIPE, check=True).stdout.decode().splitlines()
 
 
-def packet():
-    size = seed.choice((2, 3, 17, 79, 249, 250, seed.randrange(2, 251)))
-    return ((seed.randrange(32) << 11) + size - 2).to_bytes(2, "big") + bytes(seed.randrange(256) for _ in range(size - 2))
-
-
 def heard():
     """A record, and the air bytes that it comes from."""
-    level, version, some = seed.randrange(1, 7), seed.randrange(32), packet()
-    return model.record(level, version, some), on_air.on_air(some, level, version, 819)[2]
+    one = shelves.one(seed)
+    return one, on_air.on_air(model.packet(one), one[0], one[1], 819)[2]
 
 
 def damaged(shelf):
-    """Some byte of some record changed: one that a rule judges, or any."""
+    """Some byte of some record changed."""
     at = 256 * seed.randrange(len(shelf) // 256)
-    p = int.from_bytes(shelf[at + 2 : at + 4], "big")
-    at += seed.choice((0, 1, 2, 3, 4, 5, min(4 + p, 253), 253, 254, 255, seed.randrange(256)))
-    return shelf[:at] + bytes((seed.choice((0, 7, 32, 251, 255, shelf[at] ^ 1, shelf[at] + 1 & 255)),)) + shelf[at + 1 :]
+    return shelf[:at] + shelves.damaged(seed, shelf[at : at + 256]) + shelf[at + 256 :]
 
 
 def some_shelf(k):

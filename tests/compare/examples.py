@@ -174,8 +174,30 @@ def symbols():
         yield named(name, records.deciding(state, numbers), "decide " + line)
 
 
+def shelves():
+    """A record made, its line, its summary; shelves of none, of one, of 4,095 to 4,097; and what is refused."""
+    packet, one, summary = map(bytes.fromhex, (worked.HEARD_PACKET, worked.HEARD, worked.HEARD_SUMMARY))
+    none, line = bytes.fromhex(worked.NO_ENTRY * 32), worked.HEARD_LINE
+    yield named("a record", records.making(5, 3, packet, 256), "make 0 " + worked.HEARD.upper())
+    for args, answer, name in (((0, 32, packet[:2], 0), 20, "a byte missing, and three cases more"), ((0, 32, packet, 0), 13, "level 0, and two cases more"),
+                               ((5, 32, packet, 0), 27, "version 32, and no memory"), ((5, 3, packet, 255), 34, "memory of 255 bytes")):
+        yield named(name, records.making(*args), "make %d -" % answer)
+    yield named("its line", records.lining(one, len(line)), "line 0 " + line.hex().upper())
+    for given, room, answer, name in ((one, len(line) - 1, 10, "a byte less"), (b"\7" + one[1:], 0, 35, "level 7, and no memory"), (one[1:], 0, 34, "255 bytes")):
+        yield named(name, records.lining(given, room), "line %d -" % answer)
+    yield named("the summary of no record", records.summarizing(0, b"", 256), "summarize 0 " + none.hex().upper())
+    yield named("of one", records.summarizing(256, one, 256), "summarize 0 " + summary.hex().upper())
+    for size, some, room, answer, name in ((255, one, 255, 34, "of 255 bytes"), (256, one, 257, 34, "into 257 bytes"), (256, one[1:], 256, 35, "of a wrong record")):
+        yield named(name, records.summarizing(size, some, room), "summarize %d -" % answer)
+    yield named("the first record added", records.adding(0, b"", one, none), "add 0 " + worked.HEARD_SUMMARY.upper())
+    yield named("the last that there is room for", records.adding(256 * 4095, one, one, bytes(256)), "add 0 " + worked.ADDED_LAST.upper())
+    for size, given, answer, name in ((4096, one, 36, "one more"), (4096, one[:255] + b"\1", 35, "one more, its last byte 1"), (4097, one, 34, "to 4,097"),
+                                      (0, one + b"\0", 34, "a record of 257 bytes")):
+        yield named(name, records.adding(256 * size, one, given, summary), "add %d %s" % (answer, worked.HEARD_SUMMARY.upper()))
+
+
 def everything():
-    for some in (symbols, checks, packets, written, small, deliveries, collected, damaged, whole_way, stories):
+    for some in (shelves, symbols, checks, packets, written, small, deliveries, collected, damaged, whole_way, stories):
         yield from some()
     yield named("a record cut short", b"P")
 

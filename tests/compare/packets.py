@@ -77,7 +77,8 @@ def missing(seen):
     return [w for w in wanted if not seen[w]]
 
 
-def compare(inputs):
+def compare(inputs, count=count):
+    """What count saw in the inputs, on all of which program and model print the same lines."""
     seen = collections.Counter()
     for batch in batches(inputs):
         for data in differing_of(batch)[:1]:
@@ -89,14 +90,18 @@ def compare(inputs):
     return seen
 
 
+def tell(seen, answers):
+    for f in answers:
+        print("%s: %s" % (f, ", ".join("%d times %d" % (seen[f, a], a) for a in answers[f])))
+
+
 def main(n):
     single = [*listed.everything(), *(draw.drawn(kind, seed) for kind in "PWA" for seed in range(n))]
     several = [runs.drawn(seed) for seed in range(n // 5)]
     seen = compare(single + several)
     if missing(seen):
         sys.exit("never drawn: %s" % missing(seen))
-    for f in ANSWERS:
-        print("%s: %s" % (f, ", ".join("%d times %d" % (seen[f, a], a) for a in ANSWERS[f])))
+    tell(seen, ANSWERS)
     print("ask agrees with the model on %d records and %d runs of records" % (len(single), len(several)))
 
 

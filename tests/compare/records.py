@@ -1,7 +1,7 @@
 """Records of the program ask, and what it should print of them. All numbers are written high byte first."""
 import struct
 
-from model import on_air, reader, samples, story, writer
+from model import on_air, reader, samples, shelf, story, writer
 from model.checks import packet_check
 from model.collector import Collector, Place
 from model.packet import Fields
@@ -74,11 +74,35 @@ def deciding(state, numbers):
     return b"D" + struct.pack(">2d", *state) + two(len(given)) + given
 
 
+def over(b, size):
+    """Bytes over and over up to a length."""
+    return (b * (size // len(b) + 1))[:size] if b else bytes(size)
+
+
+def adding(size, some, one, summary):
+    """A shelf is given by its length and by bytes that are repeated."""
+    return b"E" + size.to_bytes(4, "big") + two(len(some)) + two(len(one)) + two(len(summary)) + some + one + summary
+
+
+def summarizing(size, some, room):
+    return b"U" + size.to_bytes(4, "big") + two(room) + two(len(some)) + some
+
+
+def making(level, version, packet, room):
+    return b"M" + bytes((level, version)) + two(room) + two(len(packet)) + packet
+
+
+def lining(one, room):
+    return b"L" + two(room) + two(len(one)) + one
+
+
 def naming(name):
     return b"#" + bytes((len(name),)) + name.encode()
 
 
-HEADS = {b"#": 2, b"P": 3, b"W": 133, b"A": 7, b"R": 5, b"O": 3, b"F": 3, b"C": 5, b"N": 1, b"K": 3, b"S": 18, b"H": 7, b"T": 125, b"J": 5, b"D": 19}
+HEADS = {b"#": 2, b"P": 3, b"W": 133, b"A": 7, b"R": 5, b"O": 3, b"F": 3, b"C": 5, b"N": 1, b"K": 3, b"S": 18, b"H": 7, b"T": 125, b"J": 5, b"D": 19,
+         b"E": 11, b"U": 9, b"M": 7, b"L": 5}
+LENGTHS = {b"W": 2, b"T": 2, b"E": 3, b"F": 0, b"C": 0, b"N": 0, b"S": 0, b"H": 0}  # how many lengths of parts end the head; one in the others
 
 
 def number(b, i):
@@ -94,7 +118,7 @@ def length(b):
     if letter == b"#":
         whole = head + b[1]
     else:
-        whole = head + (0 if letter in b"FCNSH" else number(b, head - 2)) + (number(b, head - 4) if letter in b"WT" else 0)
+        whole = head + sum(number(b, head - 2 * k) for k in range(1, LENGTHS.get(letter, 1) + 1))
     return whole if whole <= len(b) else 0
 
 
@@ -131,6 +155,16 @@ def symbol_of(b):
     return struct.unpack(">2d", b[1:17]), struct.unpack(">%dd" % count, b[19 : 19 + 8 * count])
 
 
+def adding_of(b):
+    """What an E asks: the shelf, the record, the summary."""
+    n, m = number(b, 5), number(b, 7)
+    return over(b[11 : 11 + n], shelf_size(b)), b[11 + n : 11 + n + m], b[11 + n + m :][:300]
+
+
+def shelf_size(b):
+    return min(int.from_bytes(b[1:5], "big"), 4097 * shelf.RECORD + 1)
+
+
 def pattern(x):
     return "nan" if x != x else struct.pack(">d", x).hex()
 
@@ -154,6 +188,14 @@ def read_lines(packet):
              "digits " + digits(f.digits), "time %d" % f.time, "certificate " + digits(f.certificate), "signature " + hexed(f.signature),
              "codes " + digits(codes), "entries " + hexed(entries), "text %d %s" % (text_answer, hexed(text)), "body " + hexed(body)]
     return lines + written(*writer.write(f, codes, entries or list(body), 250)) if answer == 0 else lines
+
+
+SHELVES = {
+    b"E": ("add", lambda b: shelf.add(*adding_of(b))),
+    b"U": ("summarize", lambda b: shelf.summarize(over(b[9:], shelf_size(b)), min(number(b, 5), 300))),
+    b"M": ("make", lambda b: shelf.make(b[1], b[2], b[7:], min(number(b, 3), 300))),
+    b"L": ("line", lambda b: shelf.line_into(b[5:], min(number(b, 1), 600))),
+}
 
 
 class Program:
@@ -187,6 +229,10 @@ class Program:
         if letter == b"J":
             answer, text = story.join(record[5:], min(number(record, 1), 1400))
             return ["join %d %s" % (answer, hexed(text)), "the rest as it was"]
+        if letter in SHELVES:
+            name, call = SHELVES[letter]
+            answer, given = call(record)
+            return ["%s %d %s" % (name, answer, hexed(given)), "the rest as it was"]
         if letter == b"D":
             answer, verdict, product, state = samples.decide(*symbol_of(record))
             return ["decide %d %s %s" % (answer, verdict, " ".join(map(pattern, (product, *state))))]
@@ -246,6 +292,16 @@ def said_of(record):
         return "tell kind %d, number %s, %d codes %s, time %d, certificate %s, signature %s, text %r, into %d bytes" % story_of(record)
     if letter == b"J":
         return "join into %d bytes %s" % (number(record, 1), hexed(record[5:]))
+    if letter == b"E":
+        n, m = number(record, 5), number(record, 7)
+        return "add to a shelf of %d bytes, over and over %s, the record %s; the summary %s" % (
+            shelf_size(record), *map(hexed, (record[11 : 11 + n], record[11 + n : 11 + n + m], record[11 + n + m :])))
+    if letter == b"U":
+        return "the summary, into %d bytes, of a shelf of %d bytes, over and over %s" % (number(record, 5), shelf_size(record), hexed(record[9:]))
+    if letter == b"M":
+        return "a record, into %d bytes, of level %d, version %d, the packet %s" % (number(record, 3), record[1], record[2], hexed(record[7:]))
+    if letter == b"L":
+        return "a line, into %d bytes, of the record %s" % (number(record, 1), hexed(record[5:]))
     if letter == b"D":
         return "decide, the state %s, the numbers %s" % symbol_of(record)
     if letter == b"K":

@@ -78,6 +78,14 @@ def told(record, size):
         yield record[:123] + two(len(less)) + record[125:at] + less
 
 
+def shelved(record, size):
+    """A shelf with a record fewer, of those that the length says; what else an E holds is only set to zero."""
+    n = int.from_bytes(record[1:5], "big")
+    for less in (n - 256 * size, n - size):
+        if less >= 0:
+            yield record[:1] + less.to_bytes(4, "big") + record[5:]
+
+
 def key(record):
     """Fewer bytes, then more zeros."""
     return len(record), len(record) - record.count(0)
@@ -90,7 +98,9 @@ def tries(record, size):
         return [*fields(record, size), *zeroed(record, 1, 127, size), *zeroed(record, 133, len(record), size)]
     if letter == b"T":
         return [*told(record, size), *zeroed(record, 4, 119, size), *zeroed(record, 125, len(record), size)]
-    if letter in (b"A", b"R", b"J"):
+    if letter in (b"E", b"U"):
+        return [*shelved(record, size), *zeroed(record, HEADS[letter], len(record), size)]
+    if letter in (b"A", b"R", b"J", b"M", b"L"):
         head = HEADS[letter]
         return [*packets(record, head, size), *zeroed(record, 1, head - 2, size), *zeroed(record, head, len(record), size)]
     if letter == b"D":

@@ -4,13 +4,12 @@
 
 At a difference it looks for the smallest input that still differs, prints it and stops.
 """
-import collections
 import random
 import sys
 
 from model import story
 
-from . import packets, records, smaller
+from . import packets, records
 
 HOLD = bytes.fromhex("a84d0005ff") + bytes(4) + bytes(6) + bytes(64)  # a packet of type 21, right in itself
 ANSWERS = {"tell": (0, 10, 20, 25, 26, 27, 30, 31, 32), "join": (0, 10, 33)}
@@ -137,19 +136,10 @@ def missing(seen):
 
 
 def main(n):
-    seen = collections.Counter()
-    given = [record for seed in range(n) for record in stories(seed)]
-    for batch in packets.batches(given):
-        for data in packets.differing_of(batch)[:1]:
-            least = smaller.records(data, packets.differing)
-            sys.exit("ask differs from the model; the smallest input found:\n%s\nin hex: %s\nask:\n%smodel:\n%s"
-                     % (records.said(least), least.hex(" "), packets.run(least), records.printed(least)))
-        for data in batch:
-            count(seen, data)
+    seen = packets.compare((record for seed in range(n) for record in stories(seed)), count)
     if missing(seen):
         sys.exit("never drawn: %s" % missing(seen))
-    for f in ANSWERS:
-        print("%s: %s" % (f, ", ".join("%d times %d" % (seen[f, a], a) for a in ANSWERS[f])))
+    packets.tell(seen, ANSWERS)
     print("ask agrees with the model on %d stories, told and joined" % n)
 
 

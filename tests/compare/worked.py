@@ -210,3 +210,12 @@ SYMBOLS = (
     *(((1.0, 1.0), [0.0] * 31 + [x], "38 undecided 0000000000000000 3ff0000000000000 3ff0000000000000", "a last sample of %s" % x)
       for x in (32767.5, -0.25)),
 )
+
+# A record of level 5, version 3 and a packet of three bytes: type 15, length field 1. Its line. The summary of it alone: entry 15 says one, the last of
+# number 0, and the other entries say none; behind 4,095 records its last number is 4095.
+HEARD_PACKET = "7801af"
+HEARD = "05030003" + HEARD_PACKET + "ff" * 247 + "0000"
+HEARD_LINE = b"5 3 3 7801AF\n"
+NO_ENTRY = "00000000ffffffff"
+HEARD_SUMMARY = NO_ENTRY * 15 + "0000000100000000" + NO_ENTRY * 16
+ADDED_LAST = "00" * 120 + "0000000100000fff" + "00" * 128

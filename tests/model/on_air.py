@@ -12,15 +12,21 @@ def frame(level, version, total, number, four):
     return bits.to_bytes(13, "big")
 
 
-def on_air(packet, level, version, room):
-    """The answer, the count of frames and the air bytes: 20, 13, 27, 10, else N frames, N the least with 4N no less than P + 2."""
+def refusal(packet, level, version):
+    """20: the size is outside 2 to 250 or not the length field plus 2; 13: a reserved level; 27: a version above 31; else 0."""
     p = len(packet)
     if not 2 <= p <= 250 or p != ((packet[0] & 7) << 8 | packet[1]) + 2:
-        return 20, 0, b""
+        return 20
     if level in (0, 7) or level > 7:
-        return 13, 0, b""
-    if version > 31:
-        return 27, 0, b""
+        return 13
+    return 27 if version > 31 else 0
+
+
+def on_air(packet, level, version, room):
+    """The answer, the count of frames and the air bytes: 20, 13, 27, 10, else N frames, N the least with 4N no less than P + 2."""
+    p, number = len(packet), refusal(packet, level, version)
+    if number:
+        return number, 0, b""
     total = next(n for n in range(64) if 4 * n >= p + 2)
     if room < 13 * total:
         return 10, 0, b""

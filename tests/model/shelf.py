@@ -1,4 +1,5 @@
 """The shelf, request K6 of paper 02: records of 256 bytes, the summary of them by type, a record's line, and the refusals."""
+from . import on_air
 
 RECORD, MOST = 256, 4096
 NONE = 0xFFFFFFFF
@@ -47,3 +48,38 @@ def summary(shelf):
     types = [one[4] >> 3 for one in records(shelf)]
     entries = ((types.count(t), max((k for k, other in enumerate(types) if other == t), default=NONE)) for t in range(32))
     return b"".join(count.to_bytes(4, "big") + last.to_bytes(4, "big") for count, last in entries)
+
+
+def add(shelf, one, before):
+    """The answer, and the summary behind it: only the entry of the record's type is another, one more and the shelf's record count as the last number."""
+    if refusal(shelf) == 34 or len(one) != RECORD or len(before) != RECORD:
+        return 34, before
+    if refusal(shelf) or breaks_a_rule(one):
+        return 35, before
+    if len(shelf) == MOST * RECORD:
+        return 36, before
+    at = 8 * (one[4] >> 3)
+    count = (int.from_bytes(before[at : at + 4], "big") + 1) % 2**32
+    return 0, before[:at] + count.to_bytes(4, "big") + (len(shelf) // RECORD).to_bytes(4, "big") + before[at + 8 :]
+
+
+def summarize(shelf, room):
+    """The answer, and the summary made afresh."""
+    number = 34 if room != RECORD else refusal(shelf)
+    return (number, b"") if number else (0, summary(shelf))
+
+
+def make(level, version, some, room):
+    """The answer, and the record of a packet: the on-air writer's own numbers in its order, and 34 last."""
+    number = on_air.refusal(some, level, version) or (34 if room != RECORD else 0)
+    return (number, b"") if number else (0, record(level, version, some))
+
+
+def line_into(one, room):
+    """The answer, and the line with its end: 34, 35, and 10 where it doesn't fit."""
+    if len(one) != RECORD:
+        return 34, b""
+    if breaks_a_rule(one):
+        return 35, b""
+    due = line(one).encode() + b"\n"
+    return (10, b"") if room < len(due) else (0, due)

@@ -11,7 +11,7 @@ pub(crate) fn least(n: usize, m: usize) -> usize
 
 // The length of a record of two parts; 0 where there is less.
 pub(crate) fn whole(b: &[u8], head: usize, rest: usize) -> usize
-    requires { ⌜ (head ≤ 1000) × (rest ≤ 150000) ⌝ }
+    requires { ⌜ (head ≤ 1000) × (rest ≤ 199000) ⌝ }
     ensures { λ r. ⌜ r ≤ 200000 ⌝ }
 {
     let n = head + rest;

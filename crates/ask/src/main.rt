@@ -1,6 +1,6 @@
 // Asks the proved functions what records on standard input name, and prints what they give as lines of text, an empty one behind each
 // record. A record begins with a letter. P reads a packet, W writes fields, A puts a packet on air, K takes a packet check; T tells a story,
-// J joins one; D decides a symbol; R gives a delivery to the receiver, O a frame to the collector, F releases a pair, C copies its packet; N begins with a fresh
+// J joins one; E adds to a shelf, U takes its summary, M makes a record of it, L its line; D decides a symbol; R gives a delivery to the receiver, O a frame to the collector, F releases a pair, C copies its packet; N begins with a fresh
 // receiver and an empty collector, S and H put a receiver's record and a collector's place as they are given; # only names what comes. The
 // modules say what follows a letter. All numbers are given high byte first. The input is as much as is read at once, 65536 bytes.
 mod deciding;
@@ -9,6 +9,7 @@ mod keeping;
 mod reading;
 mod say;
 mod sending;
+mod shelving;
 mod telling;
 mod writing;
 
@@ -39,6 +40,14 @@ fn length_of(b: &[u8]) -> usize
             input::two(b, 121) as usize + input::two(b, 123) as usize,
         ),
         b'J' => input::whole(b, 5, input::two(b, 3) as usize),
+        b'E' => input::whole(
+            b,
+            11,
+            input::two(b, 5) as usize + input::two(b, 7) as usize + input::two(b, 9) as usize,
+        ),
+        b'U' => input::whole(b, 9, input::two(b, 7) as usize),
+        b'M' => input::whole(b, 7, input::two(b, 5) as usize),
+        b'L' => input::whole(b, 5, input::two(b, 3) as usize),
         b'S' => input::whole(b, 18, 0),
         b'H' => input::whole(b, 7, 0),
         b'D' => input::whole(b, 19, input::two(b, 17) as usize),
@@ -56,6 +65,10 @@ fn asked(b: &[u8]) {
         b'K' => sending::check(b),
         b'T' => telling::tell(b),
         b'J' => telling::join(b),
+        b'E' => shelving::add(b),
+        b'U' => shelving::summarize(b),
+        b'M' => shelving::make(b),
+        b'L' => shelving::line(b),
         b'D' => deciding::record(b),
         b'N' => say::text(b"new\n"),
         b'S' | b'H' => say::text(b"set\n"),
