@@ -32,13 +32,13 @@ def blocks(page):
 
 def folder_like_ours(folder):
     for name in os.listdir(ROOT):
-        if name not in (".git", "station.ini", "station.ini.lock", "pier.air", "shelf", "summary"):
+        if name not in (".git", "station.ini", "station.ini.lock", "pier.air", "shelf", "summary", "left", "right"):
             os.symlink(os.path.join(os.path.abspath(ROOT), name), os.path.join(folder, name))
 
 
 def build(page, folder, env):
     """The programs that the page names; whatever the first run says of it is not what they print."""
-    for name in sorted(set(re.findall(r"run/([a-z]+)", page)) | {"show", "records"}):
+    for name in sorted(set(re.findall(r"run/([a-z]+)", page)) | {"show", "records", "differences"}):
         subprocess.run(["run/start", "--words", name], cwd=folder, env=env, stdout=subprocess.DEVNULL, stderr=subprocess.DEVNULL)
 
 

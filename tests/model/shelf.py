@@ -1,4 +1,4 @@
-"""The shelf, request K6 of paper 02: records of 256 bytes, the summary of them by type, a record's line, and the refusals."""
+"""The shelf, requests K6 and K9 of paper 02: records of 256 bytes, the summary of them by type, a record's line, the refusals, and two shelves compared."""
 from . import on_air
 
 RECORD, MOST = 256, 4096
@@ -83,3 +83,19 @@ def line_into(one, room):
         return 35, b""
     due = line(one).encode() + b"\n"
     return (10, b"") if room < len(due) else (0, due)
+
+
+def compared(left, right):
+    """What K9 prints of two files: 34 and 35 for left, then for right; else the lines of what differs and their number."""
+    for name, shelf in (("left", left), ("right", right)):
+        if refusal(shelf):
+            return ["%d %s" % (refusal(shelf), name)]
+    ours, theirs = records(left), records(right)
+    lines = []
+    for r, (a, b) in enumerate(zip(ours, theirs)):
+        if a != b:
+            byte = [x == y for x, y in zip(a, b)].index(False)
+            lines.append("record %d byte %d %02X %02X" % (r, byte, a[byte], b[byte]))
+    lines += ["record %d only left" % r for r in range(len(theirs), len(ours))]
+    lines += ["record %d only right" % r for r in range(len(ours), len(theirs))]
+    return lines + ["differences %d" % len(lines)]

@@ -29,7 +29,7 @@ fn total_for(size: usize) -> Total
 }
 
 // Whether the packet has 2 to 250 bytes and says so itself.
-fn right_size(packet: &[u8]) -> bool
+pub fn right_size(packet: &[u8]) -> bool
     ensures { λ r. ⌜ r ≡ sized (now (packet .entry)) ⌝ }
 {
     if packet.len() < 2 {

@@ -12,8 +12,8 @@ use mathlib.Core.Bool.{cond}
 use borrow.Author.Tests.{lt-ltb, le-ltb}
 use Rattle.laws.proofs.Cases.{if-yes, if-no}
 use Rattle.laws.proofs.Elements.{by-test}
-use Rattle.laws.proofs.Writes.{sets-append}
-use Rattle.lines.specs.Letters.{digitsOf, numberText}
+use Rattle.laws.proofs.Writes.{sets-append, from-front}
+use Rattle.lines.specs.Letters.{digitsOf, numberText, numberWritten, numberInto}
 
 -- room for more digits than there are changes nothing
 more : (k n : ℕ) → n < 10 ^ suc k → digitsOf (suc k) n ≡ digitsOf (suc (suc k)) n
@@ -53,6 +53,18 @@ pub put-last : (n : ℕ) (out rest : List ℕ) (k : ℕ) → 10 ≤ n → n < 2 
 put-last n out rest k h u e w =
     let f : k ≡ 0 + length (numberText (n / 10)) = omega arith in
     rw (f, w) (sym (ap (sets out 0) (last-digit n h u) ∙ sets-append (numberText (n / 10)) ((48 + n % 10) ∷ []) out 0))
+
+-- ---- by whether there is room for twenty
+module _ (n : ℕ) (out : List ℕ) where
+  pub no-number : length out < 20 → (0 ≡ numberWritten n out) × (out ≡ numberInto n out)
+  unfolding numberWritten numberInto
+  no-number h = let s = lt-ltb (length out) 20 h in (sym (if-yes _ _ s), sym (if-yes _ _ s))
+
+  pub number-room : 20 ≤ length out → (numberWritten n out ≡ length (numberText n)) × (numberInto n out ≡ sets out 0 (numberText n))
+  unfolding numberWritten numberInto
+  number-room h =
+      let s = le-ltb (length out) 20 h in
+      (if-no _ _ s, if-no _ _ s ∙ sym (from-front (numberText n) out (omega (arith, at-most-20 n))))
 
 -- ---- bytes stored one by one, from a byte on
 pub put-two : (out : List ℕ) (at x y : ℕ) → set (set out at x) (at + 1) y ≡ sets out at (x ∷ y ∷ [])

@@ -18,6 +18,13 @@ digitsOf (suc k) n = cond (ltb n 10) ((48 + n) ∷ []) (digitsOf k (n / 10) ++ (
 unfoldable pub numberText : ℕ → List ℕ
 numberText n = digitsOf 20 n
 
+-- how much of a number is written, and what the output is then: nothing where there is no room for twenty digits
+unfoldable pub numberWritten : ℕ → List ℕ → ℕ
+numberWritten n out = cond (ltb (length out) 20) 0 (length (numberText n))
+
+unfoldable pub numberInto : ℕ → List ℕ → List ℕ
+numberInto n out = cond (ltb (length out) 20) out (numberText n ++ drop (length (numberText n)) out)
+
 -- a space and the letter's name
 unfoldable pub letterText : Carried → List ℕ
 letterText None = 32 ∷ []

@@ -5,7 +5,7 @@ ghost use mathlib.Core.Path.{_≡_};
 ghost use Prim.Native.Nat.{_+_, _/_, _%_, _<_, _≤_};
 ghost use lib.ListN.{length};
 ghost use lib.Seq.{sets};
-ghost use Rattle.lines.specs.Letters.{numberText, letterText, infoText, letterWritten, letterOutput};
+ghost use Rattle.lines.specs.Letters.{numberText, numberWritten, numberInto, letterText, infoText, letterWritten, letterOutput};
 
 // The number's digits from the output's start, and how many.
 fn put_number(n: u64, out: &mut [u8]) -> usize
@@ -20,6 +20,18 @@ fn put_number(n: u64, out: &mut [u8]) -> usize
     let k = put_number(n / 10, out);
     out[k] = 48 + (n % 10) as u8;
     k + 1
+}
+
+// Writes a number in decimal at the output's start and answers how many digits it has. Where the output has no room for twenty, it writes nothing and
+// answers 0.
+pub fn number(n: u64, out: &mut [u8]) -> usize
+    ensures length { λ r. ⌜ r ≡ numberWritten n (now (out .entry)) ⌝ }
+    ensures output { λ _. ⌜ now (out .exit) ≡ numberInto n (now (out .entry)) ⌝ }
+{
+    if out.len() < 20 {
+        return 0;
+    }
+    put_number(n, out)
 }
 
 // A space and the letter's name from a byte on, and how many bytes.

@@ -3,6 +3,7 @@ mod letters;
 mod records;
 
 pub use letters::letter_line;
+pub use letters::number;
 pub use records::record_line;
 ghost use mathlib.Core.Path.{_≡_};
 ghost use mathlib.Core.List.{[], _∷_, _++_};
@@ -17,6 +18,13 @@ pub(crate) fn hex_glyph(d: u8) -> u8
     ensures { λ r. ⌜ r ≡ glyph d ⌝ }
 {
     if d < 10 { 48 + d } else { 55 + d }
+}
+
+// The two characters of a byte.
+pub fn hex_of(b: u8) -> [u8; 2]
+    ensures { λ r. ⌜ r ≡ hexOf (b ∷ []) ⌝ }
+{
+    [hex_glyph(b / 16), hex_glyph(b % 16)]
 }
 
 // Two characters a byte from the output's start.

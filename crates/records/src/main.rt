@@ -23,8 +23,7 @@ fn print(shelf: &[u8], n: usize) {
 }
 
 fn show(shelf: &[u8]) {
-    let mut summary = [0u8; 256];
-    let answer = shelf::summarize(shelf, &mut summary);
+    let answer = shelf::judge(shelf);
     if answer != 0 {
         say(answer);
         return;

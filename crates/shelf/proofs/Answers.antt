@@ -16,10 +16,24 @@ use Rattle.frame.specs.Heading.{reserved}
 use Rattle.air.specs.OnAir.{sized}
 use Rattle.shelf.specs.Record.{levelIn, versionIn, sizeIn, packetIn, typeIn, right, recordOf}
 use Rattle.shelf.specs.Summary.{recordsIn, summaryOf, noted}
-use Rattle.shelf.specs.Shelf.{whole, allRight, addCases, addAnswer, added, summaryCases, summaryAnswer, summarized, makeCases, makeAnswer, made, lineIn, lineCases, lineAnswer, lined, lineOutput}
+use Rattle.shelf.specs.Shelf.{whole, allRight, shelfCases, shelfAnswer, addCases, addAnswer, added, summaryCases, summaryAnswer, summarized, makeCases, makeAnswer, made, lineIn, lineCases, lineAnswer, lined, lineOutput}
 use Rattle.shelf.proofs.Rules.{keeps, take-most}
 use Rattle.lines.specs.Records.{noLine, recordWritten, recordInto}
 use Rattle.lines.proofs.RecordLine.{record-length}
+
+-- ---- a shelf by itself
+module _ (s : List ℕ) where
+  pub judge-34 : whole s ≡ false → 34 ≡ shelfAnswer s
+  unfolding shelfAnswer shelfCases
+  judge-34 e = sym (stop _ _ (ap not e))
+
+  pub judge-35 : whole s ≡ true → allRight s ≡ false → 35 ≡ shelfAnswer s
+  unfolding shelfAnswer shelfCases
+  judge-35 w e = sym (pass _ _ (ap not w) ∙ stop _ _ (ap not e))
+
+  pub judge-0 : whole s ≡ true → allRight s ≡ true → 0 ≡ shelfAnswer s
+  unfolding shelfAnswer shelfCases
+  judge-0 w e = sym (pass _ _ (ap not w) ∙ pass _ _ (ap not e) ∙ none-left)
 
 -- ---- add
 module _ (s r m : List ℕ) where

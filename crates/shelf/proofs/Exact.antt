@@ -9,7 +9,7 @@ use borrow.Author.Tests.{ne-eqb}
 use Rattle.laws.specs.Refusals.{Case, first, none, among, apart, caseAt}
 use Rattle.laws.proofs.Refusals.{exact, done, listed}
 use Rattle.laws.proofs.Cases.{if-no}
-use Rattle.shelf.specs.Shelf.{addCases, addAnswer, summaryCases, summaryAnswer, summarized, makeCases, makeAnswer, made, lineCases, lineAnswer, lined, lineOutput}
+use Rattle.shelf.specs.Shelf.{shelfCases, shelfAnswer, addCases, addAnswer, summaryCases, summaryAnswer, summarized, makeCases, makeAnswer, made, lineCases, lineAnswer, lined, lineOutput}
 
 -- an answer that follows its cases
 abbrev pub Follows : ℕ → List Case → Type 0
@@ -20,6 +20,14 @@ Follows answer cases =
 
 follows : (cases : List Case) → apart cases ≡ true → Follows (first cases) cases
 follows cases a = (done cases a, exact cases a, listed cases)
+
+shelf-apart : (s : List ℕ) → apart (shelfCases s) ≡ true
+unfolding apart among shelfCases
+shelf-apart s = refl
+
+pub judge-exact : (s : List ℕ) → Follows (shelfAnswer s) (shelfCases s)
+unfolding shelfAnswer
+judge-exact s = follows (shelfCases s) (shelf-apart s)
 
 add-apart : (s r m : List ℕ) → apart (addCases s r m) ≡ true
 unfolding apart among addCases

@@ -2,31 +2,33 @@
 use mathlib.Core.Path.{_≡_, refl, sym, ap, _∙_}
 use mathlib.Core.List.{List, [], _∷_, _++_}
 use Prim.Native.Nat.{ℕ, suc, _+_, _-_, _<_, _≤_}
+use native.Mathlib.Nat.{add-zero}
 use native.Mathlib.Omega.{arith}
 use native.Mathlib.Numerals.{add-one}
 use lib.ListN.{length, getD, set, drop, length-set, replicate}
 use lib.Seq.{sets}
 use Rattle.laws.proofs.Writes.{put-turn, put-done}
 
--- ---- a packet from the fifth byte on
-pub record Copying (packet out₀ out : List ℕ) (i : ℕ) : Type 0 where
-  pub within : i ≤ length packet
+-- ---- bytes copied to a place and behind it
+pub record Copying (from : ℕ) (bytes out₀ out : List ℕ) (i : ℕ) : Type 0 where
+  pub within : i ≤ length bytes
   pub kept : length out ≡ length out₀
-  pub rest : sets out₀ 4 packet ≡ sets out (4 + i) (drop i packet)
+  pub rest : sets out₀ from bytes ≡ sets out (from + i) (drop i bytes)
 
-pub copying-first : (packet out : List ℕ) → Copying packet out out 0
-copying-first packet out = record { within = omega arith; kept = refl; rest = refl }
+pub copying-first : (from : ℕ) (bytes out : List ℕ) → Copying from bytes out out 0
+copying-first from bytes out =
+    record { within = omega arith; kept = refl; rest = ap (λ (k : ℕ). sets out k bytes) (sym (add-zero from)) }
 
-pub copying-turn : (packet out₀ out : List ℕ) (i : ℕ) → Copying packet out₀ out i → i < length packet → Copying packet out₀ (set out (4 + i) (getD packet i 0)) (i + 1)
-copying-turn packet out₀ out i g h =
+pub copying-turn : (from : ℕ) (bytes out₀ out : List ℕ) (i : ℕ) → Copying from bytes out₀ out i → i < length bytes → Copying from bytes out₀ (set out (from + i) (getD bytes i 0)) (i + 1)
+copying-turn from bytes out₀ out i g h =
     record {
       within = omega arith;
-      kept = length-set out (4 + i) (getD packet i 0) ∙ g .kept;
-      rest = put-turn 0 packet out (set out (4 + i) (getD packet i 0)) (sets out₀ 4 packet) 4 i (getD packet i 0) h (g .rest) refl refl;
+      kept = length-set out (from + i) (getD bytes i 0) ∙ g .kept;
+      rest = put-turn 0 bytes out (set out (from + i) (getD bytes i 0)) (sets out₀ from bytes) from i (getD bytes i 0) h (g .rest) refl refl;
     }
 
-pub copying-last : (packet out₀ out : List ℕ) (i : ℕ) → Copying packet out₀ out i → length packet ≤ i → out ≡ sets out₀ 4 packet
-copying-last packet out₀ out i g h = put-done packet out (sets out₀ 4 packet) (4 + i) i h (g .rest)
+pub copying-last : (from : ℕ) (bytes out₀ out : List ℕ) (i : ℕ) → Copying from bytes out₀ out i → length bytes ≤ i → out ≡ sets out₀ from bytes
+copying-last from bytes out₀ out i g h = put-done bytes out (sets out₀ from bytes) (from + i) i h (g .rest)
 
 -- ---- fill, then the closing bytes
 abbrev pub ending : ℕ → List ℕ

@@ -25,6 +25,13 @@ fits l = eqb (length l) 256
 unfoldable pub allRight : List ℕ → Bool
 allRight shelf = below (recordsIn shelf) (λ i. right (recordAt shelf i))
 
+-- ---- a shelf by itself: 34, 35
+unfoldable pub shelfCases : List ℕ → List Case
+shelfCases shelf = (not (whole shelf), 34) ∷ (not (allRight shelf), 35) ∷ []
+
+unfoldable pub shelfAnswer : List ℕ → ℕ
+shelfAnswer shelf = first (shelfCases shelf)
+
 -- ---- adding: 34, 35, 36, in this order
 unfoldable pub addCases : List ℕ → List ℕ → List ℕ → List Case
 addCases shelf given summary =

@@ -9,9 +9,8 @@ ghost use lib.Dec.{eqb};
 ghost use lib.Seq.{sets};
 ghost use Rattle.laws.specs.Scan.{all};
 ghost use Rattle.frame.specs.Heading.{reserved};
-ghost use Rattle.air.specs.OnAir.{sized};
 ghost use Rattle.shelf.specs.Record.{right};
-ghost use Rattle.shelf.specs.Shelf.{whole, allRight, addAnswer, added, summaryAnswer, summarized, makeAnswer, made, lined, lineOutput};
+ghost use Rattle.shelf.specs.Shelf.{whole, allRight, shelfAnswer, addAnswer, added, summaryAnswer, summarized, makeAnswer, made, lined, lineOutput};
 
 // What is said of a line: the answer, and how many bytes were written.
 pub struct Written {
@@ -100,6 +99,19 @@ fn are_right(shelf: &[u8]) -> bool
     true
 }
 
+// Whether a shelf may be used: 34 or 35 where it may not.
+pub fn judge(shelf: &[u8]) -> u8
+    ensures { λ r. ⌜ r ≡ shelfAnswer (now (shelf .entry)) ⌝ }
+{
+    if !is_whole(shelf) {
+        return 34;
+    }
+    if !are_right(shelf) {
+        return 35;
+    }
+    0
+}
+
 // Rewrites in the summary the entry of the record's type, for a record behind the shelf's last: 34, 35 or 36 where it is refused.
 pub fn add(shelf: &[u8], given: &[u8], summary: &mut [u8]) -> u8
     ensures answer { λ r. ⌜ r ≡ addAnswer (now (shelf .entry)) (now (given .entry)) (now (summary .entry)) ⌝ }
@@ -173,25 +185,12 @@ fn put_packet(out: &mut [u8], packet: &[u8])
     }
 }
 
-// Whether a packet has 2 to 250 bytes and says so itself.
-fn is_sized(packet: &[u8]) -> bool
-    ensures { λ r. ⌜ r ≡ sized (now (packet .entry)) ⌝ }
-{
-    if packet.len() < 2 {
-        return false;
-    }
-    if packet.len() > 250 {
-        return false;
-    }
-    packet.len() == size::packet_size(packet)
-}
-
 // Writes the record of a whole packet: the on-air writer's 20, 13 and 27, then 34 where it is refused.
 pub fn make(level: u8, version: u8, packet: &[u8], out: &mut [u8]) -> u8
     ensures answer { λ r. ⌜ r ≡ makeAnswer level version (now (packet .entry)) (now (out .entry)) ⌝ }
     ensures output { λ _. ⌜ now (out .exit) ≡ made level version (now (packet .entry)) (now (out .entry)) ⌝ }
 {
-    if !is_sized(packet) {
+    if !air::right_size(packet) {
         return 20;
     }
     if is_reserved(level) {

@@ -14,23 +14,23 @@ use borrow.Author.Needs.{needs}
 use Rattle.shelf.proofs.make.Statement.{statement}
 use Rattle.shelf.proofs.make.Tie as tie
 
-is-sized-requires : tie.Need-is-sized-requires
-is-sized-requires c κs = search needs
+right-size-requires : tie.Need-right-size-requires
+right-size-requires c κs = search needs
 
 returns : tie.Need-returns
-returns c = make-20 (c .before .before .before .before .args .level) (c .before .before .before .before .args .version) (c .before .before .before .before .args .packet .now) (c .before .before .before .before .args .out .now) (sym (c .before .is-sized .ensures) ∙ not-true _ (c .if1 .taken))
+returns c = make-20 (c .before .before .before .before .args .level) (c .before .before .before .before .args .version) (c .before .before .before .before .args .packet .now) (c .before .before .before .before .args .out .now) (sym (c .before .right-size .ensures) ∙ not-true _ (c .if1 .taken))
 
 is-reserved-requires : tie.Need-is-reserved-requires
 is-reserved-requires c κs = search needs
 
 returns-2 : tie.Need-returns-2
-returns-2 c = make-13 (c .before .before .before .before .before .before .args .level) (c .before .before .before .before .before .before .args .version) (c .before .before .before .before .before .before .args .packet .now) (c .before .before .before .before .before .before .args .out .now) (sym (c .before .before .before .is-sized .ensures) ∙ not-false _ (c .before .before .if1 .left)) (sym (c .before .is-reserved .ensures) ∙ c .if2 .taken)
+returns-2 c = make-13 (c .before .before .before .before .before .before .args .level) (c .before .before .before .before .before .before .args .version) (c .before .before .before .before .before .before .args .packet .now) (c .before .before .before .before .before .before .args .out .now) (sym (c .before .before .before .right-size .ensures) ∙ not-false _ (c .before .before .if1 .left)) (sym (c .before .is-reserved .ensures) ∙ c .if2 .taken)
 
 returns-3 : tie.Need-returns-3
-returns-3 c = make-27 (c .before .before .before .before .before .before .before .args .level) (c .before .before .before .before .before .before .before .args .version) (c .before .before .before .before .before .before .before .args .packet .now) (c .before .before .before .before .before .before .before .args .out .now) (sym (c .before .before .before .before .is-sized .ensures) ∙ not-false _ (c .before .before .before .if1 .left)) (sym (c .before .before .is-reserved .ensures) ∙ c .before .if2 .left) (omega arith)
+returns-3 c = make-27 (c .before .before .before .before .before .before .before .args .level) (c .before .before .before .before .before .before .before .args .version) (c .before .before .before .before .before .before .before .args .packet .now) (c .before .before .before .before .before .before .before .args .out .now) (sym (c .before .before .before .before .right-size .ensures) ∙ not-false _ (c .before .before .before .if1 .left)) (sym (c .before .before .is-reserved .ensures) ∙ c .before .if2 .left) (omega arith)
 
 returns-4 : tie.Need-returns-4
-returns-4 c = make-34 (c .before .before .before .before .before .before .before .before .args .level) (c .before .before .before .before .before .before .before .before .args .version) (c .before .before .before .before .before .before .before .before .args .packet .now) (c .before .before .before .before .before .before .before .before .args .out .now) (sym (c .before .before .before .before .before .is-sized .ensures) ∙ not-false _ (c .before .before .before .before .if1 .left)) (sym (c .before .before .before .is-reserved .ensures) ∙ c .before .before .if2 .left) (omega arith) (c .if4 .taken)
+returns-4 c = make-34 (c .before .before .before .before .before .before .before .before .args .level) (c .before .before .before .before .before .before .before .before .args .version) (c .before .before .before .before .before .before .before .before .args .packet .now) (c .before .before .before .before .before .before .before .before .args .out .now) (sym (c .before .before .before .before .before .right-size .ensures) ∙ not-false _ (c .before .before .before .before .if1 .left)) (sym (c .before .before .before .is-reserved .ensures) ∙ c .before .before .if2 .left) (omega arith) (c .if4 .taken)
 
 slice-write-out : tie.Need-slice-write-out
 slice-write-out c = omega (arith, c .if4 .left)
@@ -42,13 +42,13 @@ slice-write-out-3 : tie.Need-slice-write-out-3
 slice-write-out-3 c = simp length-set (omega (arith, c .if4 .left))
 
 cast-out : tie.Need-cast-out
-cast-out c = omega (arith, sized-short (c .before .before .before .before .before .before .before .before .args .packet .now) (sym (c .before .before .before .before .before .is-sized .ensures) ∙ not-false _ (c .before .before .before .before .if1 .left)))
+cast-out c = omega (arith, sized-short (c .before .before .before .before .before .before .before .before .args .packet .now) (sym (c .before .before .before .before .before .right-size .ensures) ∙ not-false _ (c .before .before .before .before .if1 .left)))
 
 slice-write-out-4 : tie.Need-slice-write-out-4
 slice-write-out-4 c = simp length-set (omega (arith, c .if4 .left))
 
 put-packet-requires : tie.Need-put-packet-requires
-put-packet-requires c κs = simp length-set (omega (arith, c .before .if4 .left, sized-short (c .before .before .before .before .before .before .before .before .before .args .packet .now) (sym (c .before .before .before .before .before .before .is-sized .ensures) ∙ not-false _ (c .before .before .before .before .before .if1 .left))))
+put-packet-requires c κs = simp length-set (omega (arith, c .before .if4 .left, sized-short (c .before .before .before .before .before .before .before .before .before .args .packet .now) (sym (c .before .before .before .before .before .before .right-size .ensures) ∙ not-false _ (c .before .before .before .before .before .if1 .left))))
 
 add-put-end : tie.Need-add-put-end
 add-put-end c = search needs
@@ -57,7 +57,7 @@ put-end-requires : tie.Need-put-end-requires
 put-end-requires c κs =
     let a = c .before .before .before .before .before .before .before .before .before .before .before .before .before .args in (
       ap length (c .before .before .before .put-packet .ensures) ∙ length-sets (set (set (set (set (a .out .now) 0 (a .level)) 1 (a .version)) 2 0) 3 (length (a .packet .now))) 4 (a .packet .now) ∙ four-kept (a .out .now) (a .level) (a .version) 0 (length (a .packet .now)) ∙ c .before .before .before .before .before .if4 .left,
-      omega (arith, sized-short (a .packet .now) (sym (c .before .before .before .before .before .before .before .before .before .before .is-sized .ensures) ∙ not-false _ (c .before .before .before .before .before .before .before .before .before .if1 .left))),
+      omega (arith, sized-short (a .packet .now) (sym (c .before .before .before .before .before .before .before .before .before .before .right-size .ensures) ∙ not-false _ (c .before .before .before .before .before .before .before .before .before .if1 .left))),
     )
 
 same-length : tie.Need-same-length
@@ -67,13 +67,13 @@ same-length c =
     ∙ ap length (c .before .before .before .before .before .before .put-packet .ensures) ∙ length-sets (set (set (set (set (a .out .now) 0 (a .level)) 1 (a .version)) 2 0) 3 (length (a .packet .now))) 4 (a .packet .now) ∙ four-kept (a .out .now) (a .level) (a .version) 0 (length (a .packet .now))
 
 returns-5 : tie.Need-returns-5
-returns-5 c = make-done (c .before .before .before .before .before .before .before .before .before .before .before .before .before .before .before .before .args .level) (c .before .before .before .before .before .before .before .before .before .before .before .before .before .before .before .before .args .version) (c .before .before .before .before .before .before .before .before .before .before .before .before .before .before .before .before .args .packet .now) (c .before .before .before .before .before .before .before .before .before .before .before .before .before .before .before .before .args .out .now) (sym (c .before .before .before .before .before .before .before .before .before .before .before .before .before .is-sized .ensures) ∙ not-false _ (c .before .before .before .before .before .before .before .before .before .before .before .before .if1 .left)) (sym (c .before .before .before .before .before .before .before .before .before .before .before .is-reserved .ensures) ∙ c .before .before .before .before .before .before .before .before .before .before .if2 .left) (omega arith) (c .before .before .before .before .before .before .before .before .if4 .left) _ (put-record (c .before .before .before .before .before .before .before .before .before .before .before .before .before .before .before .before .args .level) (c .before .before .before .before .before .before .before .before .before .before .before .before .before .before .before .before .args .version) (c .before .before .before .before .before .before .before .before .before .before .before .before .before .before .before .before .args .packet .now) (c .before .before .before .before .before .before .before .before .before .before .before .before .before .before .before .before .args .out .now) (c .before .before .before .before .before .before .put-packet .last .0) _ (c .before .before .before .before .before .before .before .before .if4 .left) (sized-short (c .before .before .before .before .before .before .before .before .before .before .before .before .before .before .before .before .args .packet .now) (sym (c .before .before .before .before .before .before .before .before .before .before .before .before .before .is-sized .ensures) ∙ not-false _ (c .before .before .before .before .before .before .before .before .before .before .before .before .if1 .left))) (c .before .before .before .before .before .before .put-packet .ensures) (c .before .before .put-end .ensures))
+returns-5 c = make-done (c .before .before .before .before .before .before .before .before .before .before .before .before .before .before .before .before .args .level) (c .before .before .before .before .before .before .before .before .before .before .before .before .before .before .before .before .args .version) (c .before .before .before .before .before .before .before .before .before .before .before .before .before .before .before .before .args .packet .now) (c .before .before .before .before .before .before .before .before .before .before .before .before .before .before .before .before .args .out .now) (sym (c .before .before .before .before .before .before .before .before .before .before .before .before .before .right-size .ensures) ∙ not-false _ (c .before .before .before .before .before .before .before .before .before .before .before .before .if1 .left)) (sym (c .before .before .before .before .before .before .before .before .before .before .before .is-reserved .ensures) ∙ c .before .before .before .before .before .before .before .before .before .before .if2 .left) (omega arith) (c .before .before .before .before .before .before .before .before .if4 .left) _ (put-record (c .before .before .before .before .before .before .before .before .before .before .before .before .before .before .before .before .args .level) (c .before .before .before .before .before .before .before .before .before .before .before .before .before .before .before .before .args .version) (c .before .before .before .before .before .before .before .before .before .before .before .before .before .before .before .before .args .packet .now) (c .before .before .before .before .before .before .before .before .before .before .before .before .before .before .before .before .args .out .now) (c .before .before .before .before .before .before .put-packet .last .0) _ (c .before .before .before .before .before .before .before .before .if4 .left) (sized-short (c .before .before .before .before .before .before .before .before .before .before .before .before .before .before .before .before .args .packet .now) (sym (c .before .before .before .before .before .before .before .before .before .before .before .before .before .right-size .ensures) ∙ not-false _ (c .before .before .before .before .before .before .before .before .before .before .before .before .if1 .left))) (c .before .before .before .before .before .before .put-packet .ensures) (c .before .before .put-end .ensures))
 
 pub make-spec : {M : Type 1} → statement M
 make-spec =
     tie.close
     (tie.spec
-    is-sized-requires
+    right-size-requires
     returns
     is-reserved-requires
     returns-2
