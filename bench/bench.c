@@ -5,6 +5,7 @@
 struct radio {
     uint64_t high, low;
     uint32_t count;
+    uint8_t follows;
 };
 struct heard {
     uint8_t answer;
@@ -12,7 +13,7 @@ struct heard {
     struct radio radio;
 };
 struct radio radio_fresh(void);
-struct heard radio_receive(struct radio r, const uint8_t *delivery, size_t n, uint8_t *out, size_t room);
+struct heard radio_receive(struct radio r, const uint8_t *delivery, size_t n, uint8_t *out, size_t room, uint8_t *counts, size_t room_for_counts);
 uint16_t radio_packet_check(const uint8_t *bytes, size_t n);
 uint32_t radio_letter(uint32_t bits);
 struct sent {
@@ -32,7 +33,7 @@ extern int strcmp(const char *a, const char *b);
 extern int memcmp(const void *a, const void *b, size_t n);
 enum { OWN_TIME = 2 };
 
-enum { ROUNDS = 7, PIECE = 512, MOST = 2000 * PIECE, ROOM = 320 };
+enum { ROUNDS = 7, PIECE = 512, MOST = 2000 * PIECE, ROOM = 320, COUNTS = 40 };
 static uint8_t air[MOST];
 
 static uint64_t seed = 0x9E3779B97F4A7C15;
@@ -100,6 +101,16 @@ static void mixture(size_t size)
     }
 }
 
+/* Frames one behind the other, each block but those of the first with a burst of up to five bits. */
+static void bursts(size_t size)
+{
+    at = 0;
+    put_frame(size, 0);
+    while (at < size * 8)
+        for (int k = 0; k < 4; k++)
+            put_bits(block(chance(65536), offsets[k]) ^ (chance(31) + 1) << chance(22), 26, size);
+}
+
 /* A block A begins at every tenth bit, and no frame anywhere: the ten check bits of each are the first of the next but one. */
 static void false_starts(size_t size)
 {
@@ -115,25 +126,25 @@ static void false_starts(size_t size)
 /* A run over the first `size` bytes of air in deliveries of `piece`: how many frames. */
 static size_t ours(size_t size, size_t piece)
 {
-    uint8_t out[ROOM];
+    uint8_t out[ROOM], counts[COUNTS];
     size_t frames = 0;
     struct radio r = radio_fresh();
     for (size_t i = 0; i < size; i += piece) {
-        struct heard h = radio_receive(r, air + i, size - i < piece ? size - i : piece, out, ROOM);
+        struct heard h = radio_receive(r, air + i, size - i < piece ? size - i : piece, out, ROOM, counts, COUNTS);
         r = h.radio;
         frames += h.frames;
     }
     return frames;
 }
 
-typedef int receive_fn(struct plain_receiver *, const uint8_t *, size_t, uint8_t *, size_t);
+typedef int receive_fn(struct plain_receiver *, const uint8_t *, size_t, uint8_t *, size_t, uint8_t *, size_t);
 static size_t in_c(receive_fn *receive, size_t size, size_t piece)
 {
-    uint8_t out[ROOM];
+    uint8_t out[ROOM], counts[COUNTS];
     size_t frames = 0;
-    struct plain_receiver r = {0, 0, 0};
+    struct plain_receiver r = {0, 0, 0, 0};
     for (size_t i = 0; i < size; i += piece)
-        frames += (size_t)receive(&r, air + i, size - i < piece ? size - i : piece, out, ROOM);
+        frames += (size_t)receive(&r, air + i, size - i < piece ? size - i : piece, out, ROOM, counts, COUNTS);
     return frames;
 }
 
@@ -144,22 +155,24 @@ static void differ(const char *where, size_t place)
     wrong = 1;
 }
 
-/* Every delivery: answer, frames, the whole lent output, and the receiver left. */
+/* Every delivery: answer, frames, both lent outputs whole, and the receiver left. */
 static void agree(const char *where, receive_fn *receive, size_t size, size_t piece)
 {
-    uint8_t mine[ROOM], theirs[ROOM];
+    uint8_t mine[ROOM], theirs[ROOM], my_counts[COUNTS], their_counts[COUNTS];
     struct radio r = radio_fresh();
-    struct plain_receiver p = {0, 0, 0};
+    struct plain_receiver p = {0, 0, 0, 0};
     for (size_t i = 0; i < ROOM; i++)
         mine[i] = theirs[i] = (uint8_t)i;
+    for (size_t i = 0; i < COUNTS; i++)
+        my_counts[i] = their_counts[i] = (uint8_t)i;
     for (size_t i = 0; i < size && !wrong; i += piece) {
         size_t n = size - i < piece ? size - i : piece;
-        struct heard h = radio_receive(r, air + i, n, mine, ROOM);
-        int frames = receive(&p, air + i, n, theirs, ROOM);
+        struct heard h = radio_receive(r, air + i, n, mine, ROOM, my_counts, COUNTS);
+        int frames = receive(&p, air + i, n, theirs, ROOM, their_counts, COUNTS);
         r = h.radio;
-        if (h.answer != 0 || frames < 0 || h.frames != (size_t)frames || memcmp(mine, theirs, ROOM) != 0)
+        if (h.answer != 0 || frames < 0 || h.frames != (size_t)frames || memcmp(mine, theirs, ROOM) != 0 || memcmp(my_counts, their_counts, COUNTS) != 0)
             differ(where, i);
-        if (r.high != p.high || r.low != p.low || r.count != p.count)
+        if (r.high != p.high || r.low != p.low || r.count != p.count || r.follows != p.follows)
             differ(where, i);
     }
 }
@@ -241,15 +254,17 @@ static void on_air_agrees(void)
 
 static void refusals_agree(void)
 {
-    uint8_t out[ROOM];
-    struct plain_receiver p = {0, 0, 104}, q = {0, 0, 0};
-    struct radio r = {0, 0, 104};
-    if (radio_receive(r, air, 1, out, ROOM).answer != -plain_receive(&p, air, 1, out, ROOM))
+    uint8_t out[ROOM], counts[COUNTS];
+    struct plain_receiver p = {0, 0, 104, 0}, q = {0, 0, 0, 0};
+    struct radio r = {0, 0, 104, 0};
+    if (radio_receive(r, air, 1, out, ROOM, counts, COUNTS).answer != -plain_receive(&p, air, 1, out, ROOM, counts, COUNTS))
         differ("104 bits pending", 0);
-    if (radio_receive(radio_fresh(), air, 513, out, ROOM).answer != -plain_receive(&q, air, 513, out, ROOM))
+    if (radio_receive(radio_fresh(), air, 513, out, ROOM, counts, COUNTS).answer != -plain_receive(&q, air, 513, out, ROOM, counts, COUNTS))
         differ("513 bytes", 0);
-    if (radio_receive(radio_fresh(), air, 512, out, 319).answer != -plain_receive(&q, air, 512, out, 319))
+    if (radio_receive(radio_fresh(), air, 512, out, 319, counts, COUNTS).answer != -plain_receive(&q, air, 512, out, 319, counts, COUNTS))
         differ("an output of 319", 0);
+    if (radio_receive(radio_fresh(), air, 512, out, ROOM, counts, 39).answer != -plain_receive(&q, air, 512, out, ROOM, counts, 39))
+        differ("a second output of 39", 0);
 }
 
 /* Symbols: whole samples of any size or small ones, a row of 32 numbers each; now and then what is no sample, a state that is none, another count. */
@@ -401,14 +416,15 @@ static void head(const char *unit)
 }
 
 typedef void make_fn(size_t size);
-enum { KINDS = 4 };
-static make_fn *const kinds[KINDS] = {clean, noise, mixture, false_starts};
-static const char *const names[KINDS] = {"clean air", "noise", "mixture", "an A every 10 bits"};
+enum { KINDS = 5 };
+static make_fn *const kinds[KINDS] = {clean, noise, mixture, false_starts, bursts};
+static const char *const names[KINDS] = {"clean air", "noise", "mixture", "an A every 10 bits", "every block damaged"};
 static const char *const doubled[KINDS][4] = {
     {"clean air, 128000 bytes", "clean air, 256000 bytes", "clean air, 512000 bytes", "clean air, 1024000 bytes"},
     {"noise, 128000 bytes", "noise, 256000 bytes", "noise, 512000 bytes", "noise, 1024000 bytes"},
     {"mixture, 128000 bytes", "mixture, 256000 bytes", "mixture, 512000 bytes", "mixture, 1024000 bytes"},
     {"A's, 128000 bytes", "A's, 256000 bytes", "A's, 512000 bytes", "A's, 1024000 bytes"},
+    {"damaged, 128000 bytes", "damaged, 256000 bytes", "damaged, 512000 bytes", "damaged, 1024000 bytes"},
 };
 static const char *const pieces[5] = {"deliveries of 32 bytes", "deliveries of 64 bytes", "deliveries of 128 bytes", "deliveries of 256 bytes", "deliveries of 512 bytes"};
 static const size_t lengths[8] = {2, 77, 250, 64, 128, 256, 512, 1024};

@@ -14,6 +14,18 @@ static int valid(uint32_t block, unsigned offset)
     return rest_of(block) == offset;
 }
 
+/* Tries every change within five neighbouring bits. */
+static int mended(uint32_t *block, unsigned offset)
+{
+    for (int low = 0; low < 22; low++)
+        for (uint32_t five = 1; five < 32; five++)
+            if (rest_of(*block ^ five << low) == offset) {
+                *block ^= five << low;
+                return 1;
+            }
+    return 0;
+}
+
 static unsigned block_check(uint32_t info)
 {
     return rest_of(info << 10);

@@ -1,5 +1,5 @@
-/* The same steps as ours, in C: pending bits and delivery in one buffer, four blocks asked at a place, else 39 places asked at once; check bits by
-   long division. */
+/* The same steps as ours, in C: pending bits and delivery in one buffer, four blocks asked at a place and, right behind a frame, mended, else 39 places
+   asked at once; check bits by long division. */
 #include "plain.h"
 
 static unsigned remainder_of(uint32_t p)
@@ -59,13 +59,40 @@ static size_t open_from(const uint8_t *b, size_t from, size_t last)
     return last;
 }
 
-int same_receive(struct plain_receiver *r, const uint8_t *delivery, size_t n, uint8_t *out, size_t room)
+static unsigned block_check(uint32_t info)
+{
+    unsigned rest = 0;
+    for (int left = 25; left >= 0; left--) {
+        rest = rest * 2 + (info << 10 >> left) % 2;
+        if (rest >= 1024)
+            rest ^= 0x5B9;
+    }
+    return rest;
+}
+
+/* How many of four blocks were mended; 5 where one can't be. */
+static unsigned mended(uint32_t *blocks)
+{
+    unsigned changed = 0;
+    for (int k = 0; k < 4; k++) {
+        unsigned rest = block_check(blocks[k] >> 10) ^ offset_of[k] ^ (blocks[k] & 0x3FF);
+        if (rest == 0)
+            continue;
+        if (table_change[rest] == 0)
+            return 5;
+        blocks[k] ^= table_change[rest];
+        changed++;
+    }
+    return changed;
+}
+
+int same_receive(struct plain_receiver *r, const uint8_t *delivery, size_t n, uint8_t *out, size_t room, uint8_t *counts, size_t room_for_counts)
 {
     if (r->count > 103)
         return -28;
     if (n > 512)
         return -11;
-    if (room < 320)
+    if (room < 320 || room_for_counts < 40)
         return -10;
     uint8_t b[536] = {0};
     put_eight(b, r->high);
@@ -73,12 +100,19 @@ int same_receive(struct plain_receiver *r, const uint8_t *delivery, size_t n, ui
     for (size_t i = 0; i < n; i++)
         b[16 + i] = delivery[i];
     size_t end = (16 + n) * 8, from = 128 - r->count;
-    int frames = 0;
+    int frames = 0, follows = r->follows != 0;
     while (from + 104 <= end) {
         uint64_t x = window(b, from), y = window(b, from + 52);
-        uint32_t a = (uint32_t)(x >> 38), p = (uint32_t)(x >> 12) & 0x3FFFFFF, q = (uint32_t)(y >> 38), d = (uint32_t)(y >> 12) & 0x3FFFFFF;
-        if (valid(a, offset_of[0]) && valid(p, offset_of[1]) && valid(q, offset_of[2]) && valid(d, offset_of[3])) {
-            put_eight(out + 8 * frames, (uint64_t)(a >> 10) << 48 | (uint64_t)(p >> 10) << 32 | (uint64_t)(q >> 10) << 16 | d >> 10);
+        uint32_t f[4] = {(uint32_t)(x >> 38), (uint32_t)(x >> 12) & 0x3FFFFFF, (uint32_t)(y >> 38), (uint32_t)(y >> 12) & 0x3FFFFFF};
+        unsigned changed = 5;
+        if (valid(f[0], offset_of[0]) && valid(f[1], offset_of[1]) && valid(f[2], offset_of[2]) && valid(f[3], offset_of[3]))
+            changed = 0;
+        else if (follows)
+            changed = mended(f);
+        follows = changed < 5;
+        if (follows) {
+            put_eight(out + 8 * frames, (uint64_t)(f[0] >> 10) << 48 | (uint64_t)(f[1] >> 10) << 32 | (uint64_t)(f[2] >> 10) << 16 | f[3] >> 10);
+            counts[frames] = (uint8_t)changed;
             frames++;
             from += 104;
         } else {
@@ -90,6 +124,7 @@ int same_receive(struct plain_receiver *r, const uint8_t *delivery, size_t n, ui
     r->high = left > 64 ? high & (((uint64_t)1 << (left - 64)) - 1) : 0;
     r->low = left >= 64 ? low : low & (((uint64_t)1 << left) - 1);
     r->count = left;
+    r->follows = (uint8_t)follows;
     return frames;
 }
 
@@ -102,17 +137,6 @@ uint16_t same_packet_check(const uint8_t *bytes, size_t n)
         reg = (uint16_t)(reg << 8 ^ y << 12 ^ y << 5 ^ y);
     }
     return reg;
-}
-
-static unsigned block_check(uint32_t info)
-{
-    unsigned rest = 0;
-    for (int left = 25; left >= 0; left--) {
-        rest = rest * 2 + (info << 10 >> left) % 2;
-        if (rest >= 1024)
-            rest ^= 0x5B9;
-    }
-    return rest;
 }
 
 #define ON_AIR same_on_air

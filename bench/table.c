@@ -1,7 +1,8 @@
-/* The same rule with the divisions looked up: two tables of 256 for a block, one of 256 for the packet check. */
+/* The same rule with the divisions looked up: two tables of 256 for a block, one of 256 for the packet check, and one of 1,024 for mending. */
 #include "plain.h"
 
 static uint16_t high[256], low[256], crc[256];
+uint32_t table_change[1024];
 
 static uint16_t divided(uint32_t info)
 {
@@ -22,6 +23,11 @@ void table_prepare(void)
             reg = reg & 0x8000 ? (uint16_t)(reg << 1 ^ 0x1021) : (uint16_t)(reg << 1);
         crc[b] = reg;
     }
+    for (uint32_t place = 0; place < 22; place++)
+        for (uint32_t five = 1; five < 32; five++) {
+            uint32_t change = five << place;
+            table_change[divided(change >> 10) ^ (change & 0x3FF)] = change;
+        }
 }
 
 static unsigned block_check(uint32_t info)
@@ -32,6 +38,13 @@ static unsigned block_check(uint32_t info)
 static int valid(uint32_t block, unsigned offset)
 {
     return (block_check(block >> 10) ^ (block & 0x3FF)) == offset;
+}
+
+static int mended(uint32_t *block, unsigned offset)
+{
+    uint32_t change = table_change[block_check(*block >> 10) ^ (*block & 0x3FF) ^ offset];
+    *block ^= change;
+    return change != 0;
 }
 
 #define RECEIVE table_receive

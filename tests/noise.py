@@ -1,5 +1,5 @@
 #!/usr/bin/env python3
-"""Stories through damage by seed: each comes whole or not at all, and what loses no bit comes.
+"""Stories through damage by seed: each comes whole or not at all, and what is undamaged and back to back comes.
 
   tests/noise.py COUNT
 """
@@ -31,10 +31,11 @@ def main(count):
         came = noise.trial(air, how, seed)
         if came.texts not in ([], [text]):
             sys.exit("noise: seed %d, %s: the board showed %r instead of %r" % (seed, how, came.texts, text))
-        # four packets are collected at once, so only so many parts may come in any order
-        clean = not how.turned and not how.lost and not (how.shuffle and len(text) > 4 * 149)
+        # four packets are collected at once, so only so many parts may come in any order; garbage right behind a frame may be mended into one that
+        # covers the head of the next
+        clean = not how.turned and not how.lost and not how.garbage and not (how.shuffle and len(text) > 4 * 149)
         if clean and not came.texts:
-            sys.exit("noise: seed %d, %s: no bit was lost or inverted, and the story did not come" % (seed, how))
+            sys.exit("noise: seed %d, %s: nothing was damaged, and the story did not come" % (seed, how))
         whole += len(came.texts)
     if not count // 10 < whole < count - count // 10:
         sys.exit("noise: %d of %d stories came, so the draw shows little" % (whole, count))

@@ -64,6 +64,7 @@ def small():
     yield named("a new beginning", b"N", "new")
     yield named("one frame", records.receiving(air, 320), "receive 0 1 ")
     yield named("output of 319", records.receiving(air, 319), "receive 10 0 ")
+    yield named("second output of 39", records.receiving(air, 320, 39), "receive 10 0 ", "mended -")
     yield named("no byte", records.receiving(b"", 320), "receive 0 0 ")
     yield named("its frame", records.offering(frame), "offer 1")
     yield named("its frame again", records.offering(frame), "offer 2")
@@ -77,7 +78,7 @@ def small():
 def deliveries():
     stream, zeros = bytes.fromhex(worked.STREAM), bytes.fromhex(worked.ZEROS)
     yield named("noise, slipped and damaged frames, whole", b"N", "new")
-    yield named("140 bytes", records.receiving(stream, 320), "receive 0 6 " + "".join(worked.STREAM_FRAMES))
+    yield named("140 bytes", records.receiving(stream, 320), "receive 0 8 " + "".join(worked.STREAM_FRAMES), "mended " + worked.STREAM_MENDED)
     yield named("the same, seven bytes at a time", b"N", "new")
     for k in range(0, len(stream), 7):
         yield named("from byte %d" % k, records.receiving(stream[k : k + 7], 320), "receive 0 ")
@@ -90,6 +91,28 @@ def deliveries():
     yield named("512 bytes from its last byte on", records.receiving((zeros * 41)[12:524], 320), "receive 0 40 ")
     yield named("513 bytes", records.receiving(bytes(513), 320), "receive 11 0 ")
     yield named("513 bytes and output of 319", records.receiving(bytes(513), 319), "receive 11 0 ")
+
+
+def mended():
+    """A burst in block A right behind a frame, in one delivery and in two; the same at a start that follows none; and in a record that says which."""
+    zeros = bytes.fromhex(worked.ZEROS)
+    for burst, frame, name in worked.BURSTS:
+        bits = int(worked.ONE_DAMAGED.replace(" ", ""), 16) ^ burst << 78
+        air = bits.to_bytes(13, "big")
+        one = frame is not None
+        yield named(name + ", right behind a frame", b"N", "new")
+        yield named("both frames", records.receiving(zeros + air, 320), "receive 0 %d %s" % (1 + one, "0" * 16 + (frame or "")), "mended " + "00" + "01" * one)
+        yield named("first the one and a byte", b"N", "new")
+        yield named("14 bytes", records.receiving((zeros + air)[:14], 320), "receive 0 1 ", "mended 00")
+        yield named("the rest", records.receiving(air[1:], 320), "receive 0 %d %s" % (one, frame or "-"), "mended " + ("01" if one else "-"))
+        yield named("it alone", b"N", "new")
+        yield named("the damaged frame", records.receiving(air, 320), "receive 0 0 -", "mended -")
+        for follows in (0, 1, 255):
+            due = frame if follows else None
+            yield named("a record with its 103 bits, following %d" % follows, records.pending(103, bits >> 1, follows), "set")
+            yield named("its last bit and seven zeros", records.receiving(bytes(((bits & 1) << 7,)), 320), "receive 0 %d %s" % (due is not None, due or "-"))
+    yield named("every block of a frame damaged, right behind one", b"N", "new")
+    yield named("both frames", records.receiving(zeros + bytes.fromhex(worked.ALL_DAMAGED), 320), "receive 0 2 " + "0" * 32, "mended 0004")
 
 
 def checks():
@@ -197,7 +220,7 @@ def shelves():
 
 
 def everything():
-    for some in (shelves, symbols, checks, packets, written, small, deliveries, collected, damaged, whole_way, stories):
+    for some in (shelves, symbols, checks, packets, written, small, deliveries, mended, collected, damaged, whole_way, stories):
         yield from some()
     yield named("a record cut short", b"P")
 

@@ -55,13 +55,15 @@ def differing(inputs):
 
 
 def count(seen, data):
-    """Which answers were drawn; which types were read and written, with how many codes and of what size."""
+    """Which answers were drawn; frames with how many blocks mended; which types were read and written, with how many codes and of what size."""
     for record, block in zip(records.split(data)[0], records.blocks(data)):
         lines = block.split("\n")
         words = [line.split() for line in lines]
         for word in words:
             if word[0] in ANSWERS and (word[0] != "write" or record[:1] == b"W"):
                 seen[word[0], int(word[1])] += 1
+        for k in bytes.fromhex(words[2][1].replace("-", "")) if record[:1] == b"R" else b"":
+            seen["blocks mended", k] += 1
         if lines[0] == "read 0":
             seen["type read", int(words[1][1])] += 1
             seen["codes read", int(words[2][1])] += 1
@@ -73,6 +75,7 @@ def count(seen, data):
 def missing(seen):
     wanted = [(f, a) for f in ANSWERS for a in ANSWERS[f]]
     wanted += [(what, t) for what in ("type read", "type written") for t in NAMES]
+    wanted += [("blocks mended", k) for k in range(5)]
     wanted += [("codes read", n) for n in range(15)] + [("size read", p) for p in (77, 78, 250)]
     return [w for w in wanted if not seen[w]]
 
@@ -102,6 +105,7 @@ def main(n):
     if missing(seen):
         sys.exit("never drawn: %s" % missing(seen))
     tell(seen, ANSWERS)
+    print("frames with 0 to 4 blocks mended: %s" % ", ".join(str(seen["blocks mended", k]) for k in range(5)))
     print("ask agrees with the model on %d records and %d runs of records" % (len(single), len(several)))
 
 

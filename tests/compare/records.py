@@ -32,8 +32,8 @@ def sending(packet, level, version, room):
     return b"A" + bytes((level, version)) + two(room) + two(len(packet)) + packet
 
 
-def receiving(delivery, room):
-    return b"R" + two(room) + two(len(delivery)) + delivery
+def receiving(delivery, room, room_for_counts=40):
+    return b"R" + two(room) + bytes((room_for_counts,)) + two(len(delivery)) + delivery
 
 
 def offering(frame):
@@ -52,8 +52,8 @@ def checking(data):
     return b"K" + two(len(data)) + data
 
 
-def pending(count, bits):
-    return b"S" + bytes((count,)) + bits.to_bytes(16, "big")
+def pending(count, bits, follows=0):
+    return b"S" + bytes((count,)) + bits.to_bytes(16, "big") + bytes((follows,))
 
 
 def placing(i, held, level, version, total, number):
@@ -100,7 +100,7 @@ def naming(name):
     return b"#" + bytes((len(name),)) + name.encode()
 
 
-HEADS = {b"#": 2, b"P": 3, b"W": 133, b"A": 7, b"R": 5, b"O": 3, b"F": 3, b"C": 5, b"N": 1, b"K": 3, b"S": 18, b"H": 7, b"T": 125, b"J": 5, b"D": 19,
+HEADS = {b"#": 2, b"P": 3, b"W": 133, b"A": 7, b"R": 6, b"O": 3, b"F": 3, b"C": 5, b"N": 1, b"K": 3, b"S": 19, b"H": 7, b"T": 125, b"J": 5, b"D": 19,
          b"E": 11, b"U": 9, b"M": 7, b"L": 5}
 LENGTHS = {b"W": 2, b"T": 2, b"E": 3, b"F": 0, b"C": 0, b"N": 0, b"S": 0, b"H": 0}  # how many lengths of parts end the head; one in the others
 
@@ -214,8 +214,9 @@ class Program:
             answer, frames, air = on_air.on_air(record[7:], record[1], record[2], min(number(record, 3), 832))
             return ["air %d %d %s" % (answer, frames, hexed(air)), "the rest as it was"]
         if letter == b"R":
-            answer, frames = self.receiver.receive(record[5:], min(number(record, 1), 400))
-            return ["receive %d %d %s" % (answer, len(frames), hexed(b"".join(frames))), "the rest as it was"]
+            answer, frames, counts = self.receiver.receive(record[6:], min(number(record, 1), 400), min(record[3], 60))
+            return ["receive %d %d %s" % (answer, len(frames), hexed(b"".join(frames))), "the rest as it was",
+                    "mended " + hexed(counts), "the rest as it was"]
         if letter == b"O":
             return ["offer %d" % self.collector.offer(record[3:])]
         if letter == b"F":
@@ -239,7 +240,7 @@ class Program:
         if letter == b"K":
             return ["check %04X" % packet_check(record[3:])]
         if letter == b"S":
-            self.receiver.put(record[1], int.from_bytes(record[2:18], "big"))
+            self.receiver.put(record[1], int.from_bytes(record[2:18], "big"), record[18] != 0)
             return ["set"]
         if letter == b"H":
             return self.placed(*record[1:])
@@ -281,7 +282,7 @@ def said_of(record):
     if letter == b"A":
         return "on air, level %d, version %d, into %d bytes, the packet %s" % (record[1], record[2], number(record, 3), hexed(record[7:]))
     if letter == b"R":
-        return "receive, into %d bytes, %s" % (number(record, 1), hexed(record[5:]))
+        return "receive, into %d bytes and %d, %s" % (number(record, 1), record[3], hexed(record[6:]))
     if letter == b"O":
         return "offer " + hexed(record[3:])
     if letter == b"N":
@@ -307,7 +308,7 @@ def said_of(record):
     if letter == b"K":
         return "check " + hexed(record[3:])
     if letter == b"S":
-        return "a receiver with %d bits pending of %s" % (record[1], hexed(record[2:18]))
+        return "a receiver with %d bits pending of %s, following %d" % (record[1], hexed(record[2:18]), record[18])
     if letter == b"H":
         return "place %d: held %d, level %d, version %d, total %d, number %d marked" % tuple(record[1:])
     return ("release" if letter == b"F" else "copy into %d bytes" % number(record, 3)) + " level %d, version %d" % (record[1], record[2])

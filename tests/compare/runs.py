@@ -6,15 +6,16 @@ from .records import copying, offering, pending, placing, receiving, releasing
 
 
 def deliveries(rng):
-    """A stream cut into deliveries at any places; some are too long or have too short an output, and are given once more."""
+    """A stream cut into deliveries at any places; some are too long or have an output too short, and are given once more."""
     data = streams.stream(rng.randrange(1 << 30))[1][:3000]
     while data:
         if rng.randrange(12) == 0:
-            yield pending(rng.choice((0, 1, 26, 63, 64, 65, 102, 103, 104, 127, 128, 255)), rng.getrandbits(128))
+            yield pending(rng.choice((0, 1, 26, 63, 64, 65, 102, 103, 104, 127, 128, 255)), rng.getrandbits(128), rng.choice((0, 1, 1, 2, 255)))
         size = rng.choice((0, 1, 2, 13, 26, 100, 511, 512, 512, 513, 600, rng.randrange(513)))
         room = rng.choice((320, 320, 320, 321, 400, 319, 0))
-        yield receiving(data[:size], room)
-        if size <= 512 and room >= 320:
+        counts = rng.choice((40, 40, 40, 40, 40, 41, 60, 39, 0))
+        yield receiving(data[:size], room, counts)
+        if size <= 512 and room >= 320 and counts >= 40:
             data = data[size:]
 
 

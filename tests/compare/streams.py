@@ -7,7 +7,7 @@ import sys
 
 from model.checks import block, packet_check
 
-KINDS = ("clean", "noise", "damaged", "cut", "mixed", "short", "clean", "damaged", "cut", "mixed")
+KINDS = ("clean", "noise", "damaged", "cut", "mixed", "short", "bursts", "damaged", "cut", "bursts")
 
 
 def packet(rng, size):
@@ -86,6 +86,19 @@ def damaged(rng, bits):
     return "".join(some)
 
 
+def bursts(rng, bits):
+    """Bursts of 1 to 12 bits at any places, of the first frame too, and some over the edge of a block: their ends are turned, and the rest by chance."""
+    some = list(bits)
+    most = rng.choice((5, 5, 12))
+    for _ in range(rng.randrange(1, 2 + len(bits) // rng.choice((26, 104, 520)))):
+        n = rng.randrange(1, most + 1)
+        at = rng.choice((rng.randrange(len(some) - n), max(0, 26 * rng.randrange(len(some) // 26) - rng.randrange(n))))
+        for k in range(n):
+            if k in (0, n - 1) or rng.randrange(2):
+                some[at + k] = "10"[int(some[at + k])]
+    return "".join(some)
+
+
 def noise(rng, n):
     return "".join(rng.choice("01") for _ in range(n))
 
@@ -117,6 +130,8 @@ def stream(seed):
         bits = bits[a : rng.randrange(a, len(bits))]
     if kind == "damaged":
         bits = damaged(rng, bits)
+    if kind == "bursts":
+        bits = bursts(rng, bits)
     if kind == "mixed":
         bits = noise(rng, rng.randrange(120)) + damaged(rng, bits) + noise(rng, rng.randrange(120)) + bits_of(traffic(rng))
     return kind, packed(bits)

@@ -99,7 +99,10 @@ STREAM = """
 E0E399563DBA15D65F052E2B72989045501247CFB9FF522B6C2460D1D747D8798136B7675DF6D6CE
 914E2F6B8C64F8194CF58FE2E972F638F23B3330C3842DB35BC1D658330FBA1CF4D3338F7498AE32
 26E9FCA4CA7DC78E91C8F00D06216242C9B01C8A"""
-STREAM_FRAMES = "2DE8066FA08C6EB0 18852C9B22F59F60 A15DC14B72981540 7CFBD48A24605D1F C64F533DE2E9D8E3 A1CFCCE398AE9BA7".split()
+STREAM_FRAMES = ("2DE8066FA08C6EB0 18852C9B22F59F60 A15DC14B72981540 7CFBD48A24605D1F 9813D9D7C6CE38BD C64F533DE2E9D8E3 B533E10B5BC160CC"
+                 " A1CFCCE398AE9BA7").split()
+# Frames 6 and 8 come right behind a frame: one block of each is mended.
+STREAM_MENDED = "0000000001000100"
 
 # The frame of eight zero bytes on air.
 ZEROS = "00003F000019800005A00001B4"
@@ -116,6 +119,17 @@ RECEIVERS = (
 # 26 bits that pass as a block A, right behind them a true frame, and six bits: paper 01's receiver locked on the 26 and lost the frame.
 CHANCE = "1234 1A80 48C2 C456 7ED6 26AD FBCD EFF6 AD"
 BEHIND = "0123456789ABCDEF"
+
+# A frame with 1234 in its block A, 48D06A, and zeros in the others; then the last bits of its block A turned by 10001, within five neighbouring bits; by
+# 101111, within six, so that another block A is nearer, 48C845 with 1232; and by 110011, so that none is within five.
+ONE_DAMAGED = "1234 1A80 0019 8000 05A0 0001 B4"
+BURSTS = (
+    (0b10001, "1234000000000000", "a burst of five bits"),
+    (0b101111, "1232000000000000", "a burst of six bits, mended wrongly"),
+    (0b110011, None, "a burst of six bits that is not mended"),
+)
+# The frame of zeros with all five bits turned at the head of block A, at the end of B, in the middle of C, and from the information into the check of D.
+ALL_DAMAGED = "F800 3F00 0018 7003 E5A0 001E B4"
 
 # A place of the collector: held, level, version, total, a number marked; the answer of an offer of seven bytes.
 PLACES = (

@@ -1,7 +1,8 @@
 // What is kept from record to record: a receiver and a collector.
-// R, the length of the output lent (two bytes, at most 400), the length of a delivery (two bytes), the delivery.
+// R, the length of the output lent (two bytes, at most 400), that of the second one (a byte, at most 60), the length of a delivery (two bytes), the
+// delivery.
 // O, the length of a frame (two bytes), the frame. F, level, version. C, level, version, the length of the memory lent (two bytes, at most
-// 300). N alone. S, a count, 128 bits: a receiver with so many of the lowest of them pending. H, which of the four
+// 300). N alone. S, a count, 128 bits, a byte: a receiver with so many of the lowest of them pending, which follow a frame where the byte is not 0. H, which of the four
 // places (modulo 4), whether it is held (1), level, version, total, a number: that place with this number marked (none from 63 on).
 use crate::input;
 use crate::say;
@@ -29,12 +30,23 @@ fn bytes_of(frames: usize) -> usize {
     if frames < 50 { 8 * frames } else { 400 }
 }
 
-fn received(r: Receiver, delivery: &[u8], n: usize, memory: &mut [u8]) -> Receiver {
+// With so many bytes of the one memory lent, and of the other.
+fn received(
+    r: Receiver,
+    delivery: &[u8],
+    n: usize,
+    k: usize,
+    memory: &mut [u8],
+    counts: &mut [u8],
+) -> Receiver {
     let e = input::least(n, memory.len());
-    let got = receiver::receive(r, delivery, &mut memory[0..e]);
+    let f = input::least(k, counts.len());
+    let got = receiver::receive(r, delivery, &mut memory[0..e], &mut counts[0..f]);
     say::one(b"receive", got.answer as u64);
     say::number(got.frames as u64);
     say::memory(memory, bytes_of(got.frames));
+    say::text(b"mended");
+    say::memory(counts, got.frames);
     got.receiver
 }
 
@@ -64,6 +76,7 @@ fn pending(b: &[u8]) -> Receiver {
         high: input::eight(b, 2),
         low: input::eight(b, 10),
         count: input::byte(b, 1) as u32,
+        follows: input::byte(b, 18),
     }
 }
 
@@ -95,9 +108,11 @@ fn receiver_after(r: Receiver, b: &[u8]) -> Receiver {
     match input::byte(b, 0) {
         b'R' => received(
             r,
-            format::part(b, 5, 65536),
+            format::part(b, 6, 65536),
             input::two(b, 1) as usize,
+            input::byte(b, 3) as usize,
             &mut [0xEEu8; 400],
+            &mut [0xEEu8; 60],
         ),
         b'N' => receiver::fresh(),
         b'S' => pending(b),

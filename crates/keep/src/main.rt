@@ -131,8 +131,9 @@ fn take_air(h: Hearing, shelf: &mut [u8], summary: &mut [u8]) -> Hearing {
     let got = libc::read(STDIN_FILENO, &mut delivery);
     let n = io::count(got, &delivery);
     let mut frames = [0u8; 320];
+    let mut counts = [0u8; 40];
     let r = h.receiver;
-    let received = receiver::receive(r, format::part(&delivery, 0, n), &mut frames);
+    let received = receiver::receive(r, format::part(&delivery, 0, n), &mut frames, &mut counts);
     let k = h.keeping;
     let keeping = hear_all(k, &frames, received.frames, shelf, summary);
     let receiver = received.receiver;

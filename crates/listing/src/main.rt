@@ -52,8 +52,9 @@ fn show_all(c: Holdings, out: &[u8], n: usize) -> Holdings {
 // Takes one delivery. No run counts to the end of 64 bits.
 fn take(l: Listing, delivery: &[u8]) -> Listing {
     let mut out = [0u8; 320];
+    let mut counts = [0u8; 40];
     let r = l.receiver;
-    let got = receiver::receive(r, delivery, &mut out);
+    let got = receiver::receive(r, delivery, &mut out, &mut counts);
     let c = l.collector;
     let held = show_all(c, &out, got.frames);
     let next = got.receiver;

@@ -4,7 +4,7 @@ use mathlib.Core.Bool.{true}
 use mathlib.Core.List.{List, [], _∷_}
 use Prim.Native.Nat.{ℕ, _*_, _≤_}
 use native.Mathlib.Omega.{arith}
-use lib.ListN.{length, take, drop}
+use lib.ListN.{length, take, drop, replicate}
 use lib.Seq.{take-at}
 use lib.Dec.{eqb}
 use borrow.Author.Tests.{eq-eqb}
@@ -12,8 +12,8 @@ use Rattle.laws.proofs.Bits.{Under}
 use Rattle.frame.specs.OnAir.{streamOf}
 use Rattle.air.specs.OnAir.{framesFor, framesOf, answerOf, airedOf, airedInto}
 use Rattle.air.proofs.Answers.{length-frames, length-stream}
-use Rattle.receiver.specs.Receive.{freshReceiver}
-use Rattle.receiver.specs.Calls.{Call, AreFrames, allTaken, allFrames, lastReceiver, delivered, inBounds}
+use Rattle.receiver.specs.Receive.{quietReceiver, freshReceiver}
+use Rattle.receiver.specs.Calls.{Call, AreFrames, allTaken, allFrames, allCounts, lastReceiver, delivered, inBounds}
 use Rattle.receiver.proofs.CleanAir.{clean-air}
 use Rattle.promises.proofs.Sent.{taken, frames-few, are-frames}
 
@@ -37,19 +37,22 @@ module _ (p : List ℕ) (l v : ℕ) (out : List ℕ) (e : answerOf p l v out ≡
 pub back : (fs : List (List ℕ)) (calls : List Call) → AreFrames fs → 1 ≤ length fs → inBounds calls ≡ true → delivered calls ≡ streamOf fs
     → (allTaken freshReceiver calls ≡ true)
     × (allFrames freshReceiver calls ≡ fs)
-    × (lastReceiver freshReceiver calls ≡ freshReceiver)
+    × (allCounts freshReceiver calls ≡ replicate (length fs) 0)
+    × (lastReceiver freshReceiver calls ≡ quietReceiver true)
 unfolding delivered
 back [] calls a h b d = absurd (omega arith)
 back (f ∷ fs) [] a h b d = let z : 0 ≡ length (streamOf (f ∷ fs)) = ap length d in absurd (omega (arith, length-stream (f ∷ fs)))
 back (f ∷ fs) (c ∷ cs) a h b d = clean-air (f ∷ fs) c cs a b d
 
 -- Whatever packet, level and version the on-air writer takes: the bytes that it writes, given to a fresh receiver in deliveries of at most 512 bytes
--- cut anywhere, come back as exactly that packet's frames, in order; no delivery is refused, and the receiver ends with nothing pending.
+-- cut anywhere, come back as exactly that packet's frames, in order, with no block mended; no delivery is refused, and the receiver ends right behind a frame
+-- with nothing pending.
 pub air-comes-back : (packet : List ℕ) (level version : ℕ) (out : List ℕ) → Under 256 packet → airedOf packet level version out .answer ≡ 0
     → (calls : List Call) → inBounds calls ≡ true → delivered calls ≡ take (13 * airedOf packet level version out .frames) (airedInto packet level version out)
     → (allTaken freshReceiver calls ≡ true)
     × (allFrames freshReceiver calls ≡ framesOf packet level version)
-    × (lastReceiver freshReceiver calls ≡ freshReceiver)
+    × (allCounts freshReceiver calls ≡ replicate (length (framesOf packet level version)) 0)
+    × (lastReceiver freshReceiver calls ≡ quietReceiver true)
 unfolding airedOf
 air-comes-back p l v out u e calls b d =
     let t = taken p l v out e in

@@ -8,7 +8,7 @@ use samples::Verdict;
 ghost use mathlib.Core.Path.{_≡_};
 ghost use Rattle.crc.specs.Crc16.{crc16};
 ghost use Rattle.air.specs.OnAir.{airedOf, airedInto};
-ghost use Rattle.receiver.specs.Receive.{freshReceiver, receivedOf, receivedInto};
+ghost use Rattle.receiver.specs.Receive.{freshReceiver, receivedOf, receivedInto, countsInto};
 ghost use Rattle.block.specs.Letters.{letterOf};
 ghost use Rattle.samples.specs.Symbol.{decided};
 ghost use Rattle.samples.specs.Unrounded.{carried};
@@ -40,11 +40,17 @@ pub extern "C" fn radio_fresh() -> Receiver
 
 // Takes a delivery.
 #[no_mangle]
-pub extern "C" fn radio_receive(receiver: Receiver, delivery: &[u8], out: &mut [u8]) -> Received
-    ensures answer { λ r. ⌜ r ≡ receivedOf receiver (now (delivery .entry)) (now (out .entry)) ⌝ }
-    ensures out { λ _. ⌜ now (out .exit) ≡ receivedInto receiver (now (delivery .entry)) (now (out .entry)) ⌝ }
+pub extern "C" fn radio_receive(
+    receiver: Receiver,
+    delivery: &[u8],
+    out: &mut [u8],
+    counts: &mut [u8],
+) -> Received
+    ensures answer { λ r. ⌜ r ≡ receivedOf receiver (now (delivery .entry)) (now (out .entry)) (now (counts .entry)) ⌝ }
+    ensures out { λ _. ⌜ now (out .exit) ≡ receivedInto receiver (now (delivery .entry)) (now (out .entry)) (now (counts .entry)) ⌝ }
+    ensures counts { λ _. ⌜ now (counts .exit) ≡ countsInto receiver (now (delivery .entry)) (now (out .entry)) (now (counts .entry)) ⌝ }
 {
-    receiver::receive(receiver, delivery, out)
+    receiver::receive(receiver, delivery, out, counts)
 }
 
 // The check of a packet's bytes.

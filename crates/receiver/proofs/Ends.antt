@@ -1,5 +1,6 @@
 -- A record's bits and a delivery's in one buffer, and the record of the bits left at its end. Assumes nothing.
 use mathlib.Core.Path.{_≡_, sym, ap, ap₂, _∙_, subst}
+use mathlib.Core.Bool.{Bool}
 use mathlib.Core.List.{List, _++_}
 use Prim.Native.Nat.{ℕ, _+_, _*_, _/_, _%_, _-_, _^_, _<_, _≤_}
 use native.Mathlib.Nat.{add-zero}
@@ -16,6 +17,7 @@ use Rattle.laws.proofs.Writes.{join, from-front}
 use Rattle.laws.proofs.Parts.{in-part}
 use Rattle.receiver.specs.declared.Receiver.{Receiver}
 use Rattle.receiver.specs.Receive.{recordOf}
+use Rattle.receiver.specs.Rule.{one}
 use Rattle.receiver.specs.Search.{ahead}
 use Rattle.receiver.proofs.Octets.{shifted-one}
 use Rattle.receiver.proofs.Onward.{ahead-long, ahead-at}
@@ -56,17 +58,17 @@ filled z a c o part d hi lo small n k ea ec ep eo =
 
 -- ---- the end
 -- a record by its number, over variables: with a number's text in them these are dear to check
-few-record : (x w : ℕ) (r : Receiver) → x < 2 ^ 64 → r ≡ record { high = x / 2 ^ 64; low = x % 2 ^ 64; count = w } → record { high = 0; low = x; count = w } ≡ r
-few-record x w r s e =
+few-record : (x w k : ℕ) (r : Receiver) → x < 2 ^ 64 → r ≡ record { high = x / 2 ^ 64; low = x % 2 ^ 64; count = w; follows = k } → record { high = 0; low = x; count = w; follows = k } ≡ r
+few-record x w k r s e =
     let h : 0 ≡ x / 2 ^ 64 = omega arith in
     let l : x ≡ x % 2 ^ 64 = omega arith in
-    ap₂ (λ (a c : ℕ). record { high = a; low = c; count = w }) h l ∙ sym e
+    ap₂ (λ (a c : ℕ). record { high = a; low = c; count = w; follows = k }) h l ∙ sym e
 
-many-record : (x y w : ℕ) (r : Receiver) → y < 2 ^ 64 → r ≡ record { high = (x * 2 ^ 64 + y) / 2 ^ 64; low = (x * 2 ^ 64 + y) % 2 ^ 64; count = w } → record { high = x; low = y; count = w } ≡ r
-many-record x y w r s e = ap₂ (λ (a c : ℕ). record { high = a; low = c; count = w }) (sym (high x 64 s)) (sym (low x 64 s)) ∙ sym e
+many-record : (x y w k : ℕ) (r : Receiver) → y < 2 ^ 64 → r ≡ record { high = (x * 2 ^ 64 + y) / 2 ^ 64; low = (x * 2 ^ 64 + y) % 2 ^ 64; count = w; follows = k } → record { high = x; low = y; count = w; follows = k } ≡ r
+many-record x y w k r s e = ap₂ (λ (a c : ℕ). record { high = a; low = c; count = w; follows = k }) (sym (high x 64 s)) (sym (low x 64 s)) ∙ sym e
 
 module _ (b : List ℕ) (n from lo : ℕ) (h16 : 16 ≤ n) (hb : n ≤ length b) (hf : from ≤ n * 8) (hm : n * 8 < from + 104)
-    (el : lo ≡ at (bits b) ((n - 8) * 8) 64) where
+    (el : lo ≡ at (bits b) ((n - 8) * 8) 64) (t : Bool) (o : ℕ) (eo : o ≡ one t) where
   u : Under 2 (bits b)
   u = under-spread 8 b
 
@@ -79,10 +81,12 @@ module _ (b : List ℕ) (n from lo : ℕ) (h16 : 16 ≤ n) (hb : n ≤ length b)
       ∙ ahead-at b (n * 8) from 0 (n * 8 - from) (omega arith)
       ∙ ap (λ (p : ℕ). at (bits b) p (n * 8 - from)) (add-zero from)
 
-  record-is : (x : ℕ) → x ≡ at (bits b) from (n * 8 - from) → recordOf (ahead b (n * 8) from) ≡ record { high = x / 2 ^ 64; low = x % 2 ^ 64; count = n * 8 - from }
-  record-is x e = ap₂ (λ (y c : ℕ). record { high = y / 2 ^ 64; low = y % 2 ^ 64; count = c }) (value ∙ sym e) long
+  record-is : (x : ℕ) → x ≡ at (bits b) from (n * 8 - from) → recordOf t (ahead b (n * 8) from) ≡ record { high = x / 2 ^ 64; low = x % 2 ^ 64; count = n * 8 - from; follows = o }
+  record-is x e =
+      ap₂ (λ (y c : ℕ). record { high = y / 2 ^ 64; low = y % 2 ^ 64; count = c; follows = one t }) (value ∙ sym e) long
+      ∙ ap (λ (k : ℕ). record { high = x / 2 ^ 64; low = x % 2 ^ 64; count = n * 8 - from; follows = k }) (sym eo)
 
-  pub few-left : n * 8 - from < 64 → _≡_ {A = Receiver} (record { high = 0; low = lo % (1 * 2 ^ (n * 8 - from) % 2 ^ 64); count = n * 8 - from }) (recordOf (ahead b (n * 8) from))
+  pub few-left : n * 8 - from < 64 → _≡_ {A = Receiver} (record { high = 0; low = lo % (1 * 2 ^ (n * 8 - from) % 2 ^ 64); count = n * 8 - from; follows = o }) (recordOf t (ahead b (n * 8) from))
   few-left k =
       let w : ℕ = n * 8 - from in
       let e : 64 ≡ 64 - w + w = omega arith in
@@ -91,12 +95,12 @@ module _ (b : List ℕ) (n from lo : ℕ) (h16 : 16 ≤ n) (hb : n ≤ length b)
       ap₂ (λ (a c : ℕ). a % c) (el ∙ ap (at (bits b) ((n - 8) * 8)) e ∙ at-parts (bits b) ((n - 8) * 8) (64 - w) w) (shifted-one w 64 k)
       ∙ low (at (bits b) ((n - 8) * 8) (64 - w)) w (at-below (bits b) ((n - 8) * 8 + (64 - w)) w u)
       ∙ ap (λ (p : ℕ). at (bits b) p w) f in
-      few-record (lo % (1 * 2 ^ w % 2 ^ 64)) w (recordOf (ahead b (n * 8) from))
+      few-record (lo % (1 * 2 ^ w % 2 ^ 64)) w o (recordOf t (ahead b (n * 8) from))
       (subst (λ (y : ℕ). y < 2 ^ 64) (sym x) (at-small b from w 64 (omega arith)))
       (record-is (lo % (1 * 2 ^ w % 2 ^ 64)) x)
 
   pub many-left : (hi : ℕ) → hi ≡ at (bits b) ((n - 16) * 8) 64 → 64 ≤ n * 8 - from
-      → _≡_ {A = Receiver} (record { high = hi % (1 * 2 ^ (n * 8 - from - 64) % 2 ^ 64); low = lo; count = n * 8 - from }) (recordOf (ahead b (n * 8) from))
+      → _≡_ {A = Receiver} (record { high = hi % (1 * 2 ^ (n * 8 - from - 64) % 2 ^ 64); low = lo; count = n * 8 - from; follows = o }) (recordOf t (ahead b (n * 8) from))
   many-left hi eh k =
       let w : ℕ = n * 8 - from - 64 in
       let all : n * 8 - from ≡ w + 64 = omega arith in
@@ -112,4 +116,4 @@ module _ (b : List ℕ) (n from lo : ℕ) (h16 : 16 ≤ n) (hb : n ≤ length b)
       ap₂ (λ (a c : ℕ). a * 2 ^ 64 + c) x (el ∙ ap (λ (p : ℕ). at (bits b) p 64) (sym g))
       ∙ sym (at-parts (bits b) from w 64) ∙ ap (at (bits b) from) (sym all) in
       let r = hi % (1 * 2 ^ w % 2 ^ 64) in
-      many-record r lo (n * 8 - from) (recordOf (ahead b (n * 8) from)) small (record-is (r * 2 ^ 64 + lo) v)
+      many-record r lo (n * 8 - from) o (recordOf t (ahead b (n * 8) from)) small (record-is (r * 2 ^ 64 + lo) v)

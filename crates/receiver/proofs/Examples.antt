@@ -1,6 +1,6 @@
 -- Examples of the rule, computed. Assumes nothing.
 use mathlib.Core.Path.{_≡_, refl, ap, _∙_}
-use mathlib.Core.Bool.{Bool, true, not}
+use mathlib.Core.Bool.{Bool, true, false, not}
 use mathlib.Core.List.{List, [], _∷_}
 use Prim.Native.Nat.{ℕ, zero, suc, _+_, _≤_}
 use native.Mathlib.Omega.{arith}
@@ -12,20 +12,20 @@ use Rattle.laws.specs.Below.{below}
 use Rattle.laws.specs.Poly.{reduce, remainder}
 use Rattle.laws.proofs.Cases.{and-left, and-right}
 use Rattle.block.specs.Block.{syndrome, checkWord, carries, isValid}
-use Rattle.receiver.specs.Rule.{isFrame, information, onto, heard}
+use Rattle.receiver.specs.Rule.{isFrame, information, isTaken, takenBytes, takenCount, onto, heard}
 use Rattle.receiver.specs.Receive.{freshReceiver, pendingOf, recordOf, hearing}
 use Rattle.receiver.proofs.Rule.{heard-short, heard-frame, heard-on}
 
 -- places at which no frame begins, by computation
-skipped : (n : ℕ) (l : List ℕ) → n + 103 ≤ length l → below n (λ k. not (isFrame (drop k l))) ≡ true → heard l ≡ heard (drop n l)
-unfolding below
+skipped : (n : ℕ) (l : List ℕ) → n + 103 ≤ length l → below n (λ k. not (isFrame (drop k l))) ≡ true → heard false l ≡ heard false (drop n l)
+unfolding below isTaken
 skipped zero l h t = refl
 skipped (suc n) l h t =
     let f : ℕ → Bool = λ k. not (isFrame (drop k l)) in
     let e : n + 1 ≡ suc n = omega arith in
     skipped n l (omega arith) (and-right (f n) (below n f) t)
-    ∙ heard-on (drop n l) (omega (arith, length-drop n l)) (not-true (isFrame (drop n l)) (and-left (f n) (below n f) t))
-    ∙ ap heard (drop-drop 1 n l ∙ ap (λ (k : ℕ). drop k l) e)
+    ∙ heard-on false (drop n l) (omega (arith, length-drop n l)) (not-true (isFrame (drop n l)) (and-left (f n) (below n f) t))
+    ∙ ap (heard false) (drop-drop 1 n l ∙ ap (λ (k : ℕ). drop k l) e)
 
 -- 26 bits that pass as a block A, right behind them a true frame, and six bits more. The rule of paper 01 locked on the 26 and took the frame's A for a B
 -- that fails; hunting began behind it, and no frame was handed out.
@@ -53,20 +53,20 @@ unfolding information run at
 its-bytes = refl
 
 -- the frame is handed out, and the six bits are pending
-pub frame-behind-garbage : hearing freshReceiver garbage-before ≡ record { frames = (0x01 ∷ 0x23 ∷ 0x45 ∷ 0x67 ∷ 0x89 ∷ 0xAB ∷ 0xCD ∷ 0xEF ∷ []) ∷ []; pending = 1 ∷ 0 ∷ 1 ∷ 1 ∷ 0 ∷ 1 ∷ [] }
-unfolding hearing bitsOf
+pub frame-behind-garbage : hearing freshReceiver garbage-before ≡ record { frames = (0x01 ∷ 0x23 ∷ 0x45 ∷ 0x67 ∷ 0x89 ∷ 0xAB ∷ 0xCD ∷ 0xEF ∷ []) ∷ []; counts = 0 ∷ []; pending = 1 ∷ 0 ∷ 1 ∷ 1 ∷ 0 ∷ 1 ∷ []; follows = true }
+unfolding hearing bitsOf isTaken takenBytes takenCount
 frame-behind-garbage =
-    ap heard garbage-bits
+    ap (heard false) garbage-bits
     ∙ skipped 26 as-bits (omega arith) none-before
-    ∙ heard-frame (drop 26 as-bits) (omega arith) there
-    ∙ ap (λ (f : List ℕ). onto (f ∷ []) (heard (drop 130 as-bits))) its-bytes
-    ∙ ap (onto ((0x01 ∷ 0x23 ∷ 0x45 ∷ 0x67 ∷ 0x89 ∷ 0xAB ∷ 0xCD ∷ 0xEF ∷ []) ∷ [])) (heard-short (1 ∷ 0 ∷ 1 ∷ 1 ∷ 0 ∷ 1 ∷ []) (omega arith))
+    ∙ heard-frame false (drop 26 as-bits) (omega arith) there
+    ∙ ap (λ (f : List ℕ). onto (f ∷ []) (0 ∷ []) (heard true (drop 130 as-bits))) its-bytes
+    ∙ ap (onto ((0x01 ∷ 0x23 ∷ 0x45 ∷ 0x67 ∷ 0x89 ∷ 0xAB ∷ 0xCD ∷ 0xEF ∷ []) ∷ []) (0 ∷ [])) (heard-short true (1 ∷ 0 ∷ 1 ∷ 1 ∷ 0 ∷ 1 ∷ []) (omega arith))
 
 -- ones above the count of a record mean nothing, and none are handed back
-pub nothing-above : pendingOf (record { high = 0xFFFFFFFFFFFFFFFF; low = 0xFFFFFFFFFFFFFFFD; count = 3 }) ≡ 1 ∷ 0 ∷ 1 ∷ []
+pub nothing-above : pendingOf (record { high = 0xFFFFFFFFFFFFFFFF; low = 0xFFFFFFFFFFFFFFFD; count = 3; follows = 0 }) ≡ 1 ∷ 0 ∷ 1 ∷ []
 unfolding bitsOf
 nothing-above = refl
 
-pub no-ones-above : recordOf (1 ∷ 0 ∷ 1 ∷ []) ≡ record { high = 0; low = 5; count = 3 }
+pub no-ones-above : recordOf true (1 ∷ 0 ∷ 1 ∷ []) ≡ record { high = 0; low = 5; count = 3; follows = 1 }
 unfolding at
 no-ones-above = refl

@@ -1,15 +1,17 @@
 -- What holds of all that the rule yields: eight bytes a frame, how much stays pending, and that a frame takes 104 bits. Assumes nothing.
-use mathlib.Core.Path.{_≡_, _∙_}
+use mathlib.Core.Path.{_≡_, refl, _∙_}
+use mathlib.Core.Bool.{Bool, true, false}
 use mathlib.Core.List.{List, [], _∷_, _++_}
 use Prim.Native.Nat.{ℕ, _+_, _*_, _/_, _^_, _<_, _≤_}
 use native.Mathlib.Omega.{arith}
 use lib.ListN.{length, take, drop, length-append, length-drop}
 use lib.Seq.{length-take-le}
-use Rattle.laws.specs.Bits.{bits}
+use Rattle.laws.specs.Bits.{bitsOf, bits}
 use Rattle.laws.proofs.Bits.{Under, length-bitsOf, length-spread, length-run, under-append, under-bitsOf, under-spread, under-drop}
+use Rattle.block.specs.declared.Letter.the-variants.{A, B, C, D}
 use Rattle.receiver.specs.declared.Receiver.{Receiver}
-use Rattle.receiver.specs.Rule.{Heard, information, heard}
-use Rattle.receiver.specs.Receive.{pendingOf, hearing, joined}
+use Rattle.receiver.specs.Rule.{Heard, blockAt, information, mendedBits, takenBytes, heard}
+use Rattle.receiver.specs.Receive.{pendingOf, followsOf, hearing, joined}
 use Rattle.receiver.proofs.Rule.{over}
 
 -- every frame has eight bytes
@@ -38,24 +40,57 @@ pub eight-bytes : (l : List ℕ) → 104 ≤ length l → length (information l)
 unfolding information
 eight-bytes l h = length-run (informationBits l) 0 (length (informationBits l) / 8) 8 ∙ omega (arith, information-64 l h)
 
-pub record Sound (l : List ℕ) (h : Heard) : Type 0 where
+-- four blocks as mended are 104 bits
+pub mended-long : (l : List ℕ) → length (mendedBits l) ≡ 104
+unfolding mendedBits
+mended-long l =
+    let d = bitsOf 26 (blockAt l 78 D .block) in
+    let c = bitsOf 26 (blockAt l 52 C .block) ++ d in
+    let b = bitsOf 26 (blockAt l 26 B .block) ++ c in
+    omega (
+      arith,
+      length-append (bitsOf 26 (blockAt l 0 A .block)) b,
+      length-append (bitsOf 26 (blockAt l 26 B .block)) c,
+      length-append (bitsOf 26 (blockAt l 52 C .block)) d,
+      length-bitsOf 26 (blockAt l 0 A .block),
+      length-bitsOf 26 (blockAt l 26 B .block),
+      length-bitsOf 26 (blockAt l 52 C .block),
+      length-bitsOf 26 (blockAt l 78 D .block),
+    )
+
+pub under-mended : (l : List ℕ) → Under 2 (mendedBits l)
+unfolding mendedBits
+under-mended l =
+    under-append 2 (bitsOf 26 (blockAt l 0 A .block)) _ (under-bitsOf 26 (blockAt l 0 A .block))
+    (under-append 2 (bitsOf 26 (blockAt l 26 B .block)) _ (under-bitsOf 26 (blockAt l 26 B .block))
+    (under-append 2 (bitsOf 26 (blockAt l 52 C .block)) (bitsOf 26 (blockAt l 78 D .block)) (under-bitsOf 26 (blockAt l 52 C .block)) (under-bitsOf 26 (blockAt l 78 D .block))))
+
+pub taken-eight : (t : Bool) (l : List ℕ) → 104 ≤ length l → length (takenBytes t l) ≡ 8
+unfolding takenBytes
+taken-eight false l h = eight-bytes l h
+taken-eight true l h = eight-bytes (mendedBits l) (omega (arith, mended-long l))
+
+pub record Sound (t : Bool) (l : List ℕ) (h : Heard) : Type 0 where
   pub eights : Eights (h .frames)
+  pub counted : length (h .counts) ≡ length (h .frames)
   pub short : length (h .pending) < 104
   pub bits : Under 2 l → Under 2 (h .pending)
   pub room : length (h .frames) * 104 + length (h .pending) ≤ length l
 
-pub sound : (l : List ℕ) → Sound l (heard l)
+pub sound : (t : Bool) (l : List ℕ) → Sound t l (heard t l)
 sound =
     over Sound
-    (λ l k. record { eights = tt; short = k; bits = λ u. u; room = omega arith })
-    (λ l h k v ih. record {
-      eights = (eight-bytes l k, ih .eights);
+    (λ t l k. record { eights = tt; counted = refl; short = k; bits = λ u. u; room = omega arith })
+    (λ t l h k v ih. record {
+      eights = (taken-eight t l k, ih .eights);
+      counted = omega (arith, ih .counted);
       short = ih .short;
       bits = λ u. ih .bits (under-drop 2 104 l u);
       room = omega (arith, ih .room, length-drop 104 l);
     })
-    (λ l h k v ih. record {
+    (λ t l h k v ih. record {
       eights = ih .eights;
+      counted = ih .counted;
       short = ih .short;
       bits = λ u. ih .bits (under-drop 2 1 l u);
       room = omega (arith, ih .room, length-drop 1 l);
@@ -67,9 +102,9 @@ eights-joined [] u = omega arith
 eights-joined (f ∷ fs) (e, u) = length-append f (joined fs) ∙ omega (arith, eights-joined fs u)
 
 module _ (r : Receiver) (d : List ℕ) where
-  pub hearing-sound : Sound (pendingOf r ++ bits d) (hearing r d)
+  pub hearing-sound : Sound (followsOf r) (pendingOf r ++ bits d) (hearing r d)
   unfolding hearing
-  hearing-sound = sound (pendingOf r ++ bits d)
+  hearing-sound = sound (followsOf r) (pendingOf r ++ bits d)
 
   pub hearing-bits : Under 2 (hearing r d .pending)
   hearing-bits = hearing-sound .bits (under-append 2 (pendingOf r) (bits d) (under-bitsOf (r .count) _) (under-spread 8 d))

@@ -1,6 +1,6 @@
 -- What the small functions under `receive` cite: the rule on the bits of a buffer from a place on, up to an end.
 use mathlib.Core.Path.{_≡_}
-use mathlib.Core.Bool.{true, false}
+use mathlib.Core.Bool.{Bool, true, false}
 use mathlib.Core.List.{List}
 use Prim.Native.Nat.{ℕ, _+_, _*_, _/_, _%_, _-_, _^_, _≤_, _<_}
 use lib.Count.{leadingZeros}
@@ -10,14 +10,14 @@ use Rattle.block.specs.Block.{isValid}
 use Rattle.block.specs.declared.Letter.the-variants.{A}
 use Rattle.receiver.specs.declared.searching.Found.{Found}
 use Rattle.receiver.specs.declared.searching.Read.{Read}
-use Rattle.receiver.specs.Rule.{Heard, isFrame, information, heard}
+use Rattle.receiver.specs.Rule.{Heard, isTaken, takenBytes, takenCount, heard}
 
 -- the bits from a place on, up to an end
 abbrev pub ahead : List ℕ → ℕ → ℕ → List ℕ
 ahead b end from = drop from (take end (bits b))
 
-unfoldable pub heardFrom : List ℕ → ℕ → ℕ → Heard
-heardFrom b end from = heard (ahead b end from)
+unfoldable pub heardFrom : List ℕ → ℕ → Bool → ℕ → Heard
+heardFrom b end follows from = heard follows (ahead b end from)
 
 -- what a reader of the buffer may count on: 104 bits from a place below the end, and what is read with them, stand in it
 pub record Holds (b : List ℕ) (end : ℕ) : Type 0 where
@@ -38,20 +38,22 @@ pub record ClearUpTo (l : List ℕ) (from m : ℕ) : Type 0 where
   pub most : leadingZeros 64 m ≤ 64
   pub none : NoneOf l from (leadingZeros 64 m - 25)
 
--- a frame stands at a place, with its information as one number; or none does
-pub record Answers (l : List ℕ) (r : Found) : Type 0 where
-  pub same : r .frame ≡ isFrame l
-  pub words : r .frame ≡ true → bytes (bitsOf 64 (r .words)) ≡ information l
+-- a frame is handed out from a start that follows or does not, with its information as one number and the count of its mended blocks; or none is
+pub record Takes (follows : Bool) (l : List ℕ) (r : Found) : Type 0 where
+  pub same : r .frame ≡ isTaken follows l
+  pub words : r .frame ≡ true → bytes (bitsOf 64 (r .words)) ≡ takenBytes follows l
+  pub count : r .frame ≡ true → r .mended ≡ takenCount follows l
 
--- the search has come to a place, and goes on there as it would have before
+-- the search has come to a place behind no frame, and goes on there as it would have before
 pub record Further (b : List ℕ) (end from last to : ℕ) : Type 0 where
   pub later : from ≤ to
   pub inside : to ≤ last
-  pub on : heardFrom b end to ≡ heardFrom b end from
+  pub on : heardFrom b end false to ≡ heardFrom b end false from
 
--- all was searched: so many frames, and the place where what is pending begins
-pub record Searched (b : List ℕ) (end from : ℕ) (r : Read) : Type 0 where
-  pub frames : r .frames ≡ length (heardFrom b end from .frames)
-  pub pending : ahead b end (r .from) ≡ heardFrom b end from .pending
+-- all was searched: so many frames, the place where what is pending begins, and whether it follows a frame
+pub record Searched (b : List ℕ) (end : ℕ) (follows : Bool) (from : ℕ) (r : Read) : Type 0 where
+  pub frames : r .frames ≡ length (heardFrom b end follows from .frames)
+  pub pending : ahead b end (r .from) ≡ heardFrom b end follows from .pending
+  pub behind : r .follows ≡ heardFrom b end follows from .follows
   pub inside : r .from ≤ end
   pub few : end < r .from + 104

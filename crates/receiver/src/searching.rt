@@ -4,24 +4,28 @@ use crate::store::store;
 use crate::window::window;
 use block::Letter;
 ghost use mathlib.Core.Path.{_≡_};
-ghost use Prim.Native.Nat.{_+_, _*_, _≤_};
+ghost use mathlib.Core.Bool.{true, false};
+ghost use Prim.Native.Nat.{_+_, _*_, _/_, _≤_, _<_};
 ghost use lib.ListN.{length};
 ghost use lib.Seq.{sets};
 ghost use Rattle.block.specs.Block.{isValid};
 ghost use Rattle.block.specs.Letters.{one, anyOf, placeOf};
+ghost use Rattle.receiver.specs.Rule as rule;
 ghost use Rattle.receiver.specs.Receive.{joined};
-ghost use Rattle.receiver.specs.Search.{ahead, heardFrom, Holds, Answers, Searched};
+ghost use Rattle.receiver.specs.Search.{ahead, heardFrom, Holds, Takes, Searched};
 
-// Whether a frame stands at a place, and its information.
+// Whether a frame stands at a place, its information, and how many of its blocks were mended.
 pub(crate) struct Found {
     pub frame: bool,
     pub words: u64,
+    pub mended: u8,
 }
 
-// Where the search ended, and the frames that it stored.
+// Where the search ended, the frames that it stored, and whether it ended right behind one.
 pub(crate) struct Read {
     pub from: usize,
     pub frames: usize,
+    pub follows: bool,
 }
 
 fn expected_place(letter: Letter) -> u32
@@ -42,58 +46,139 @@ fn carries(block: u32, letter: Letter) -> bool
     block::place_of(block::letter_of(block)) == expected_place(letter)
 }
 
+// The information of four blocks as one number.
+fn words_of(a: u32, p: u32, q: u32, d: u32) -> u64
+    requires { ⌜ (a < 0x4000000) × (p < 0x4000000) × (q < 0x4000000) × (d < 0x4000000) ⌝ }
+    ensures { λ r. ⌜ r ≡ (a / 1024 * 65536 + p / 1024) * 4294967296 + (q / 1024 * 65536 + d / 1024) ⌝ }
+{
+    let left = (a / 1024) as u64 * 65536 + (p / 1024) as u64;
+    let right = (q / 1024) as u64 * 65536 + (d / 1024) as u64;
+    left * 0x1_0000_0000 + right
+}
+
+fn no_frame() -> Found
+    ensures { λ r. ⌜ r ≡ record { frame = false; words = 0; mended = 0 } ⌝ }
+{
+    Found {
+        frame: false,
+        words: 0,
+        mended: 0,
+    }
+}
+
 // Asks the four blocks at a place.
 fn frame_at(b: &[u8], end: usize, from: usize) -> Found
     requires { ⌜ Holds (now b) end × (from + 104 ≤ end) ⌝ }
-    ensures { λ r. ⌜ Answers (ahead (now (b .entry)) end from) r ⌝ }
+    ensures { λ r. ⌜ Takes false (ahead (now (b .entry)) end from) r ⌝ }
 {
-    let none = Found {
-        frame: false,
-        words: 0,
-    };
     let x = window(b, from);
     let a = (x >> 38) as u32;
     if !carries(a, Letter::A) {
-        return none;
+        return no_frame();
     }
     let p = ((x >> 12) % 0x400_0000) as u32;
     if !carries(p, Letter::B) {
-        return none;
+        return no_frame();
     }
     let y = window(b, from + 52);
     let q = (y >> 38) as u32;
     if !carries(q, Letter::C) {
-        return none;
+        return no_frame();
     }
     let d = ((y >> 12) % 0x400_0000) as u32;
     if !carries(d, Letter::D) {
-        return none;
+        return no_frame();
     }
-    let left = (a / 1024) as u64 * 65536 + (p / 1024) as u64;
-    let right = (q / 1024) as u64 * 65536 + (d / 1024) as u64;
     Found {
         frame: true,
-        words: left * 0x1_0000_0000 + right,
+        words: words_of(a, p, q, d),
+        mended: 0,
     }
 }
 
-// Hands out every frame from a place on up to the end.
-pub(crate) fn search(b: &[u8], out: &mut [u8], end: usize, start: usize) -> Read
-    requires { ⌜ Holds (now b) end × (start ≤ end) × (25 ≤ start) × (320 ≤ length (now out)) ⌝ }
-    ensures state { λ r. ⌜ Searched (now (b .entry)) end start r ⌝ }
-    ensures out { λ _. ⌜ now (out .exit) ≡ sets (now (out .entry)) 0 (joined (heardFrom (now (b .entry)) end start .frames)) ⌝ }
+pub(crate) fn one(b: bool) -> u8
+    ensures { λ r. ⌜ r ≡ rule.one b ⌝ }
+{
+    if b { 1 } else { 0 }
+}
+
+// Mends the four blocks at a place.
+fn mended_at(b: &[u8], end: usize, from: usize) -> Found
+    requires { ⌜ Holds (now b) end × (from + 104 ≤ end) ⌝ }
+    ensures { λ r. ⌜ Takes true (ahead (now (b .entry)) end from) r ⌝ }
+{
+    let x = window(b, from);
+    let a = mend::mended((x >> 38) as u32, Letter::A);
+    if !a.found {
+        return no_frame();
+    }
+    let p = mend::mended(((x >> 12) % 0x400_0000) as u32, Letter::B);
+    if !p.found {
+        return no_frame();
+    }
+    let y = window(b, from + 52);
+    let q = mend::mended((y >> 38) as u32, Letter::C);
+    if !q.found {
+        return no_frame();
+    }
+    let d = mend::mended(((y >> 12) % 0x400_0000) as u32, Letter::D);
+    if !d.found {
+        return no_frame();
+    }
+    Found {
+        frame: true,
+        words: words_of(a.block, p.block, q.block, d.block),
+        mended: one(a.changed) + one(p.changed) + one(q.changed) + one(d.changed),
+    }
+}
+
+// Asks a start: mending is tried right behind a frame, and only where the blocks as they are do not all pass.
+fn taken_at(b: &[u8], end: usize, from: usize, follows: bool) -> Found
+    requires { ⌜ Holds (now b) end × (from + 104 ≤ end) ⌝ }
+    ensures { λ r. ⌜ Takes follows (ahead (now (b .entry)) end from) r ⌝ }
+{
+    let found = frame_at(b, end, from);
+    if found.frame {
+        return found;
+    }
+    if follows {
+        return mended_at(b, end, from);
+    }
+    found
+}
+
+// Hands out every frame from a place on up to the end, and of each the count of its mended blocks.
+pub(crate) fn search(
+    b: &[u8],
+    out: &mut [u8],
+    counts: &mut [u8],
+    end: usize,
+    start: usize,
+    behind: bool,
+) -> Read
+    requires { ⌜ Holds (now b) end × (start ≤ end) × (25 ≤ start) × (320 ≤ length (now out)) × (40 ≤ length (now counts)) ⌝ }
+    ensures state { λ r. ⌜ Searched (now (b .entry)) end behind start r ⌝ }
+    ensures out { λ _. ⌜ now (out .exit) ≡ sets (now (out .entry)) 0 (joined (heardFrom (now (b .entry)) end behind start .frames)) ⌝ }
+    ensures counts { λ _. ⌜ now (counts .exit) ≡ sets (now (counts .entry)) 0 (heardFrom (now (b .entry)) end behind start .counts) ⌝ }
 {
     let mut from = start;
     let mut frames = 0;
+    let mut follows = behind;
     while from + 104 <= end {
-        let found = frame_at(b, end, from);
+        let found = taken_at(b, end, from, follows);
+        follows = found.frame;
         if found.frame {
             store(out, frames * 8, found.words);
+            counts[frames] = found.mended;
             frames += 1;
             from += 104;
         } else {
             from = open_from(b, end, from + 1, end - 103);
         }
     }
-    Read { from, frames }
+    Read {
+        from,
+        frames,
+        follows,
+    }
 }

@@ -67,8 +67,9 @@ fn take_air(h: Hearing) -> Hearing {
     let got = libc::read(STDIN_FILENO, &mut delivery);
     let n = io::count(got, &delivery);
     let mut frames = [0u8; 320];
+    let mut counts = [0u8; 40];
     let r = h.receiver;
-    let received = receiver::receive(r, format::part(&delivery, 0, n), &mut frames);
+    let received = receiver::receive(r, format::part(&delivery, 0, n), &mut frames, &mut counts);
     let b = h.board;
     let board = hear_all(b, &frames, received.frames);
     let receiver = received.receiver;

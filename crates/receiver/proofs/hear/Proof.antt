@@ -39,10 +39,15 @@ rest-requires c κs = search needs
 same-length : tie.Need-same-length
 same-length c = search needs
 
+same-length-2 : tie.Need-same-length-2
+same-length-2 c = search needs
+
 returns : tie.Need-returns
 returns c =
-    let a = c .before .before .before .before .before .before .before .before .before .before .before .before .before .before .args in
-    taken (a .receiver) (a .delivery .now) (a .out .now) (c .before .before .before .before .before .before .before .before .before .before .before .before .before .before .pre .0) (c .before .before .before .before .before .before .before .before .before .before .before .before .before .before .pre .1) (c .before .before .before .before .before .before .before .before .before .before .before .before .before .before .pre .2) (c .before .before .before .before .before .before .before .before .before .fill .last .0) (c .before .before .before .before .search .last .1 .0) (c .before .before .before .before .search .result) (c .rest .result) (c .before .before .before .before .before .before .before .before .before .fill .ensures) (c .before .before .before .before .search .ensures .0) (c .before .before .before .before .search .ensures .1) (c .rest .ensures)
+    let a = c .before .before .before .before .before .before .before .before .before .before .before .before .before .before .before .before .before .before .before .args in
+    let p = c .before .before .before .before .before .before .before .before .before .before .before .before .before .before .before .before .before .before .before .pre in
+    let s = c .before .before .before .before .before .before .search .ensures in
+    taken (a .receiver) (a .delivery .now) (a .out .now) (a .counts .now) (p .0) (p .1) (p .2) (p .3) (c .before .before .before .before .before .before .before .before .before .before .before .before .before .fill .last .0) (c .before .before .before .before .before .before .search .last .1 .0) (c .before .before .before .before .before .before .search .last .1 .1 .0) (c .before .before .before .before .before .before .search .result) (c .rest .result) (c .before .before .before .before .before .before .before .before .before .before .before .before .before .fill .ensures) (s .0) (s .1 .0) (s .1 .1) (c .rest .ensures)
 
 pub hear-spec : {M : Type 1} → statement M
 hear-spec =
@@ -60,4 +65,5 @@ hear-spec =
     slice-aggregate-rest
     rest-requires
     same-length
+    same-length-2
     returns)
