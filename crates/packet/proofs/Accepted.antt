@@ -17,7 +17,7 @@ use Rattle.packet.specs.declared.Form.the-variants.{Frequencies, Address
 use Rattle.packet.specs.Table.{formOf, contentBytes, rowOf, countIn, contentLines}
 use Rattle.packet.specs.Content.{noSuchDay}
 use Rattle.packet.specs.Reading.{kindIn, lengthIn, codesIn, formIn, contentAt, contentSize, countOf, tableOf, valuesIn, partAt, contentIn, hasEntries, sizeBad, lengthBad, isUnknown, fieldBad, readAnswer, textAnswer}
-use Rattle.packet.proofs.Sizes.{column}
+use Rattle.packet.proofs.Column.{column}
 
 -- ---- what a right size says
 pub record Sized (b : List ℕ) : Type 0 where

@@ -1,4 +1,10 @@
 pub mod Forms
-pub mod Sizes
+pub mod Column
 pub mod Refused
 pub mod Accepted
+pub mod Each
+pub mod Loops
+pub mod Good
+pub mod Contents
+pub mod Bytes
+pub mod Lent

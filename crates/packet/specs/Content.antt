@@ -9,6 +9,7 @@ use Rattle.packet.specs.declared.Form.{Form}
 use Rattle.packet.specs.declared.Form.the-variants.{Frequencies, Address, Keep, Clock, Reset, Factory, Drill, Text, Command, Hold, Raw, Unknown}
 use Rattle.packet.specs.declared.Content.{Content}
 use Rattle.packet.specs.declared.Content.the-variants as content
+use Rattle.packet.specs.Table.{rowOf, countBy}
 
 -- the content of a kind, from the numbers that stand before its count, and its count
 abbrev pub contentOf : Form → List ℕ → ℕ → Content
@@ -25,62 +26,41 @@ contentOf Hold xs k = content.Hold (getD xs 0 0)
 contentOf Raw xs k = content.Raw
 contentOf Unknown xs k = content.Raw
 
+-- and back: a content's kind, the numbers that stand before its count, and its count; 0 where it has none of its own
+pub record Parts : Type 0 where
+  pub kind : Form
+  pub numbers : List ℕ
+  pub count : ℕ
+
+-- a line a type
+abbrev pub partsOf : Content → Parts
+partsOf content.Raw = record { kind = Raw; numbers = []; count = 0 }
+partsOf (content.Frequencies k) = record { kind = Frequencies; numbers = []; count = k }
+partsOf (content.Address m) = record { kind = Address; numbers = []; count = m }
+partsOf (content.Keep on period) = record { kind = Keep; numbers = on ∷ period ∷ []; count = 0 }
+partsOf (content.Clock year month day hour minute second) = record { kind = Clock; numbers = year ∷ month ∷ day ∷ hour ∷ minute ∷ second ∷ []; count = 0 }
+partsOf (content.Reset change) = record { kind = Reset; numbers = change ∷ []; count = 0 }
+partsOf content.Factory = record { kind = Factory; numbers = []; count = 0 }
+partsOf (content.Drill action) = record { kind = Drill; numbers = action ∷ []; count = 0 }
+partsOf (content.Text kind set t) = record { kind = Text; numbers = kind ∷ set ∷ []; count = t }
+partsOf (content.Command k) = record { kind = Command; numbers = []; count = k }
+partsOf (content.Hold serial) = record { kind = Hold; numbers = serial ∷ []; count = 0 }
+
 -- its kind
 abbrev pub formFor : Content → Form
-formFor content.Raw = Raw
-formFor (content.Frequencies k) = Frequencies
-formFor (content.Address m) = Address
-formFor (content.Keep on period) = Keep
-formFor (content.Clock year month day hour minute second) = Clock
-formFor (content.Reset change) = Reset
-formFor content.Factory = Factory
-formFor (content.Drill action) = Drill
-formFor (content.Text kind set t) = Text
-formFor (content.Command k) = Command
-formFor (content.Hold serial) = Hold
+formFor c = partsOf c .kind
 
 -- its numbers
 abbrev pub numbersOf : Content → List ℕ
-numbersOf content.Raw = []
-numbersOf (content.Frequencies k) = []
-numbersOf (content.Address m) = []
-numbersOf (content.Keep on period) = on ∷ period ∷ []
-numbersOf (content.Clock year month day hour minute second) = year ∷ month ∷ day ∷ hour ∷ minute ∷ second ∷ []
-numbersOf (content.Reset change) = change ∷ []
-numbersOf content.Factory = []
-numbersOf (content.Drill action) = action ∷ []
-numbersOf (content.Text kind set t) = kind ∷ set ∷ []
-numbersOf (content.Command k) = []
-numbersOf (content.Hold serial) = serial ∷ []
+numbersOf c = partsOf c .numbers
 
 -- how many numbers a kind has; the digits stand after them
 abbrev pub numbersIn : Form → ℕ
-numbersIn Frequencies = 0
-numbersIn Address = 0
-numbersIn Keep = 2
-numbersIn Clock = 6
-numbersIn Reset = 1
-numbersIn Factory = 0
-numbersIn Drill = 1
-numbersIn Text = 2
-numbersIn Command = 0
-numbersIn Hold = 1
-numbersIn Raw = 0
-numbersIn Unknown = 0
+numbersIn f = length (numbersOf (contentOf f [] 0))
 
 -- its count: k, m or t; a raw content has none of its own, and is as long as what is lent
 abbrev pub countFor : Content → List ℕ → ℕ
-countFor content.Raw body = length body
-countFor (content.Frequencies k) body = k
-countFor (content.Address m) body = m
-countFor (content.Keep on period) body = 0
-countFor (content.Clock year month day hour minute second) body = 0
-countFor (content.Reset change) body = 0
-countFor content.Factory body = 0
-countFor (content.Drill action) body = 0
-countFor (content.Text kind set t) body = t
-countFor (content.Command k) body = k
-countFor (content.Hold serial) body = 0
+countFor c body = countBy (rowOf (formFor c) .sort) (partsOf c .count) (length body)
 
 -- ---- the one rule that crosses lines: the days of a month
 -- no such day

@@ -1,21 +1,24 @@
 -- What a packet's bytes say, and what a reader answers (paper 01, "Packet" and "Numbers given back", Reader).
 use Prim.Native.Nat.{ℕ, zero, suc, _+_, _-_, _*_, _/_}
 use mathlib.Core.List.{List, [], _∷_, _++_}
-use mathlib.Core.Bool.{Bool, not, _&&_, _||_, cond}
+use mathlib.Core.Bool.{Bool, true, false, not, _&&_, _||_, cond}
 use lib.ListN.{length, replicate, take, drop}
 use lib.Seq.{sets}
-use lib.Dec.{leb, eqb}
+use lib.Dec.{leb, ltb, eqb}
 use Rattle.laws.specs.Bits.{at, run, bits}
 use Rattle.laws.specs.Refusals.{Case, first}
 use Rattle.format.specs.declared.Line.{Line}
-use Rattle.format.specs.Format.{times, size, decode, flat, fine}
+use Rattle.format.specs.Format.{times, size, need, decode, flat, fine}
 use Rattle.size.specs.Size.{lengthField}
 use Rattle.packet.specs.declared.Form.{Form}
+use Rattle.packet.specs.declared.Sort.{Sort}
+use Rattle.packet.specs.declared.Sort.the-variants as sort
 use Rattle.packet.specs.declared.Content.{Content}
 use Rattle.packet.specs.declared.Content.the-variants as content
 use Rattle.packet.specs.declared.Fields.{Fields}
 use Rattle.packet.specs.declared.Opened.{Opened}
-use Rattle.packet.specs.Table.{formOf, typeOf, contentBytes, Row, rowOf, countLine, code, packet, countIn}
+use Rattle.packet.specs.declared.Sizes.{Sizes}
+use Rattle.packet.specs.Table.{formOf, contentBytes, Row, rowOf, countLine, code, packet, countIn}
 use Rattle.packet.specs.Content.{contentOf, numbersIn, noSuchDay}
 
 -- ---- the heading (000, table 1): type, length field, count of codes
@@ -55,11 +58,30 @@ abbrev pub valuesIn : List ℕ → List (List ℕ)
 valuesIn b = decode (tableOf b) (bits b) 0
 
 -- ---- the numbers of the content's three parts (01, Packet)
+-- the count has 8 bits where there is one
+abbrev pub countSize : Sort → ℕ
+countSize sort.Fixed = 0
+countSize sort.Counted = 8
+countSize sort.Raw = 0
+countSize sort.Unknown = 0
+
 -- what is repeated begins so many bits into the content: after the first lines and the count
 unfoldable pub partAt : Row → ℕ
 partAt r = size (r .before) + size (countLine (r .sort) 0)
 
--- those of the lines ts that begin at place p
+-- the bits and own numbers of a kind's three parts (our table language)
+abbrev pub sizesOf : Form → Sizes
+sizesOf f =
+    record {
+      lead = partAt (rowOf f);
+      each = size (rowOf f .each);
+      rest = size (rowOf f .after);
+      first = need (rowOf f .before);
+      row = need (rowOf f .each);
+      last = need (rowOf f .after);
+    }
+
+-- the numbers of the lines ts that begin at place p
 abbrev pub numbersAt : List Line → List ℕ → ℕ → List ℕ
 numbersAt ts b p = flat ts (decode ts (bits b) p)
 
@@ -97,9 +119,9 @@ padded n xs = sets (zeros n) 0 xs
 unfoldable pub codesOf : List ℕ → List ℕ
 codesOf b = numbersAt (times (codesIn b) code) b 24
 
--- frequencies have entries, and the others bytes
+-- a kind whose repeated row has several lines has entries, and the others bytes (01, Packet: type 0)
 abbrev pub hasEntries : Form → Bool
-hasEntries f = eqb (typeOf f) 0
+hasEntries f = ltb 1 (length (rowOf f .each))
 
 -- the common fields: time, certificate and signature stand 74, 70 and 64 bytes before the end (000, table 1)
 unfoldable pub fieldsOf : List ℕ → Fields
@@ -124,8 +146,15 @@ unfoldable pub lengthBad : List ℕ → Bool
 lengthBad b = not (eqb (contentBytes (formIn b) (countOf b)) (contentSize b))
 
 -- 23: a type that is neither opened nor carried
+abbrev pub unknownBy : Sort → Bool
+unknownBy sort.Fixed = false
+unknownBy sort.Counted = false
+unknownBy sort.Raw = false
+unknownBy sort.Unknown = true
+
+-- by its row
 abbrev pub isUnknown : Form → Bool
-isUnknown f = eqb (typeOf f) 31
+isUnknown f = unknownBy (rowOf f .sort)
 
 -- 27: a field outside its range, or no such day
 abbrev pub fieldBad : List ℕ → Bool

@@ -121,12 +121,13 @@ ending = any 32 ∷ digits 12 ∷ octets 64 ∷ []
 unfoldable pub packet : Row → ℕ → ℕ → ℕ → ℕ → List Line
 packet r t p n k = just 5 t ∷ just 11 (p - 2) ∷ just 8 n ∷ (times n code ++ (contentLines r k ++ ending))
 
--- how often the row stands in a content of m bytes that begins at place q of the bits l
+-- how often the row stands: as the count k says, or once a byte of the m there are
+abbrev pub countBy : Sort → ℕ → ℕ → ℕ
+countBy sort.Fixed k m = 0
+countBy sort.Counted k m = k
+countBy sort.Raw k m = m
+countBy sort.Unknown k m = 0
+
+-- in a content of m bytes that begins at place q of the bits l
 abbrev pub countIn : Row → List ℕ → ℕ → ℕ → ℕ
-countIn r l q m = by (r .sort)
-  where
-    by : Sort → ℕ
-    by sort.Fixed = 0
-    by sort.Counted = at l (q + size (r .before)) 8
-    by sort.Raw = m
-    by sort.Unknown = 0
+countIn r l q m = countBy (r .sort) (at l (q + size (r .before)) 8) m

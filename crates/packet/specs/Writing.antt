@@ -64,17 +64,17 @@ bytesFor f codes body = bytes (encode (tableFor f body) (valuesFor f codes body)
 
 -- ---- the answer, in the order of paper 01 (Numbers given back, Packet writer)
 -- 26: n, k, m or t is above 255, or is not that of what is lent; entries have as many numbers as their row
-abbrev pub lentBad : Sort → ℕ → ℕ → List ℕ → Bool
-lentBad sort.Fixed k w body = false
-lentBad sort.Counted k w body = not (leb k 255 && eqb (length body) (k * w))
-lentBad sort.Raw k w body = false
-lentBad sort.Unknown k w body = false
+abbrev pub lentBad : Sort → ℕ → ℕ → ℕ → Bool
+lentBad sort.Fixed k w lent = false
+lentBad sort.Counted k w lent = not (leb k 255 && eqb lent (k * w))
+lentBad sort.Raw k w lent = false
+lentBad sort.Unknown k w lent = false
 
 -- of the codes or of the content
 unfoldable pub countBad : Fields → List ℕ → List ℕ → Bool
 countBad f codes body =
     not (leb (f .codes) 255 && eqb (length codes) (f .codes * 23))
-    || lentBad (rowFor (f .content) .sort) (countFor (f .content) body) (need (rowFor (f .content) .each)) body
+    || lentBad (rowFor (f .content) .sort) (countFor (f .content) body) (need (rowFor (f .content) .each)) (length body)
 
 -- 25: a digit above 9, in the lines or in the places of digits that the content doesn't use
 unfoldable pub digitBad : Fields → List ℕ → List ℕ → Bool
@@ -86,11 +86,11 @@ abbrev pub otherType : Fields → Bool
 otherType f = not (eqb (typeOf (formOf (f .kind))) (typeOf (formFor (f .content))))
 
 -- a body for a content that has none
-abbrev pub bodyLost : Sort → List ℕ → Bool
-bodyLost sort.Fixed body = not (eqb (length body) 0)
-bodyLost sort.Counted body = false
-bodyLost sort.Raw body = false
-bodyLost sort.Unknown body = false
+abbrev pub bodyLost : Sort → ℕ → Bool
+bodyLost sort.Fixed lent = not (eqb lent 0)
+bodyLost sort.Counted lent = false
+bodyLost sort.Raw lent = false
+bodyLost sort.Unknown lent = false
 
 -- digits in places that the content does not use
 abbrev pub digitsLost : Content → List ℕ → Bool
@@ -100,7 +100,7 @@ digitsLost c ds = not (inside 0 0 (drop (digitsBefore c + digitsAfter c) ds))
 unfoldable pub notTaken : Fields → List ℕ → List ℕ → Bool
 notTaken f codes body =
     otherType f
-    || (bodyLost (rowFor (f .content) .sort) body
+    || (bodyLost (rowFor (f .content) .sort) (length body)
     || (digitsLost (f .content) (f .digits)
     || ((eqb (f .kind) 1 && not (eqb (f .codes) 0))
     || (not (fine 27 (tableFor f body) (valuesFor f codes body)) || noSuchDay (f .content)))))

@@ -1,4 +1,5 @@
 // The packet of GY/T 390-2023, clause 6.1: what its fields are called, and its table of contents.
+mod measures;
 mod rows;
 mod table;
 
@@ -6,6 +7,7 @@ ghost use mathlib.Core.Path.{_≡_};
 ghost use Rattle.packet.specs.Table.{formOf, typeOf, rowOf, code, ending};
 ghost use Rattle.packet.specs.Shape.{Listed, Shaped};
 ghost use Rattle.packet.specs.Content.{noSuchDay};
+ghost use Rattle.packet.specs.Reading.{sizesOf, isUnknown, hasEntries};
 use format::Line;
 
 // The kinds of content (000, tables 3 to 6 and 13 to 18); Raw is carried unopened, Unknown refused.
@@ -44,6 +46,16 @@ pub struct Shape {
     pub before: Lines,
     pub each: Lines,
     pub after: Lines,
+}
+
+// Of a kind: the bits before what is repeated, the count among them, those of a row and those behind; and their own numbers.
+pub struct Sizes {
+    pub lead: usize,
+    pub each: usize,
+    pub rest: usize,
+    pub first: usize,
+    pub row: usize,
+    pub last: usize,
 }
 
 // A typed content. Its digits stand beside it, in Fields, and its bytes or entries in what is lent.
@@ -189,6 +201,51 @@ pub fn row_of(f: Form) -> Shape
         Form::Raw => table::raw(),
         Form::Unknown => table::unknown(),
     }
+}
+
+// The sizes of a kind's row.
+pub fn sizes_of(f: Form) -> Sizes
+    ensures { λ r. ⌜ r ≡ sizesOf f ⌝ }
+{
+    let s = row_of(f);
+    let sort = s.sort;
+    let before = s.before;
+    let each = s.each;
+    let after = s.after;
+    let a = measures::of_lines(before);
+    let e = measures::of_lines(each);
+    let z = measures::of_lines(after);
+    Sizes {
+        lead: a.bits + measures::count_bits(sort),
+        each: e.bits,
+        rest: z.bits,
+        first: a.numbers,
+        row: e.numbers,
+        last: z.numbers,
+    }
+}
+
+// A kind that is neither opened nor carried.
+pub fn is_unknown(f: Form) -> bool
+    ensures { λ r. ⌜ r ≡ isUnknown f ⌝ }
+{
+    let s = row_of(f);
+    let sort = s.sort;
+    match sort {
+        Sort::Fixed => false,
+        Sort::Counted => false,
+        Sort::Raw => false,
+        Sort::Unknown => true,
+    }
+}
+
+// A kind with entries: each of its rows has several lines.
+pub fn has_entries(f: Form) -> bool
+    ensures { λ r. ⌜ r ≡ hasEntries f ⌝ }
+{
+    let s = row_of(f);
+    let each = s.each;
+    1 < each.m
 }
 
 // A clock that names a day which its month doesn't have.

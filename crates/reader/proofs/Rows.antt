@@ -1,7 +1,7 @@
 -- The rows of the table of contents: that the loops can read them, and where their numbers stand. Assumes nothing.
 use mathlib.Core.Path.{_≡_, refl, sym, ap, _∙_}
 use mathlib.Core.List.{List, [], _∷_, _++_, append-nil}
-use mathlib.Core.Bool.{true, _&&_}
+use mathlib.Core.Bool.{_&&_}
 use Prim.Native.Nat.{ℕ, suc, _+_, _*_, _-_, _≤_, _<_}
 use native.Mathlib.Omega.{arith}
 use lib.Dec.{leb, ltb}
@@ -15,38 +15,15 @@ use Rattle.laws.proofs.Cases.{if-yes, and-yes}
 use Rattle.format.specs.Reach.{fieldsRead}
 use Rattle.format.proofs.Leaves.{reached}
 use Rattle.format.specs.declared.Line.{Line}
-use Rattle.format.specs.Format.{times, size, need, decode, flat, sound}
+use Rattle.format.specs.Format.{times, size, need, decode, flat}
 use Rattle.format.proofs.Tables.{flat-append, length-flat}
 use Rattle.packet.specs.declared.Form.{Form}
-use Rattle.packet.specs.declared.Form.the-variants.{Frequencies, Address, Keep, Clock, Reset, Factory, Drill, Text, Command, Hold, Raw, Unknown}
+use Rattle.packet.specs.declared.Form.the-variants.{Frequencies, Address, Clock, Reset, Drill, Text}
 use Rattle.packet.specs.declared.Sort.{Sort}
 use Rattle.packet.specs.Table.{rowOf, code}
 use Rattle.packet.specs.Content.{numbersIn}
-use Rattle.packet.specs.Reading.{partAt, numbersAt, zeros, padded}
-use Rattle.packet.proofs.Sizes.{countSize, count-size}
-
-pub record Good (f : Form) : Type 0 where
-  pub before : all sound (rowOf f .before) ≡ true
-  pub each : all sound (rowOf f .each) ≡ true
-  pub after : all sound (rowOf f .after) ≡ true
-  pub lead : partAt (rowOf f) ≤ 160
-  pub row : size (rowOf f .each) ≤ 40
-  pub rest : size (rowOf f .after) ≤ 96
-
-pub good : (f : Form) → Good f
-unfolding all size partAt
-good Frequencies = record { before = refl; each = refl; after = refl; lead = omega arith; row = omega arith; rest = omega arith }
-good Address = record { before = refl; each = refl; after = refl; lead = omega arith; row = omega arith; rest = omega arith }
-good Keep = record { before = refl; each = refl; after = refl; lead = omega arith; row = omega arith; rest = omega arith }
-good Clock = record { before = refl; each = refl; after = refl; lead = omega arith; row = omega arith; rest = omega arith }
-good Reset = record { before = refl; each = refl; after = refl; lead = omega arith; row = omega arith; rest = omega arith }
-good Factory = record { before = refl; each = refl; after = refl; lead = omega arith; row = omega arith; rest = omega arith }
-good Drill = record { before = refl; each = refl; after = refl; lead = omega arith; row = omega arith; rest = omega arith }
-good Text = record { before = refl; each = refl; after = refl; lead = omega arith; row = omega arith; rest = omega arith }
-good Command = record { before = refl; each = refl; after = refl; lead = omega arith; row = omega arith; rest = omega arith }
-good Hold = record { before = refl; each = refl; after = refl; lead = omega arith; row = omega arith; rest = omega arith }
-good Raw = record { before = refl; each = refl; after = refl; lead = omega arith; row = omega arith; rest = omega arith }
-good Unknown = record { before = refl; each = refl; after = refl; lead = omega arith; row = omega arith; rest = omega arith }
+use Rattle.packet.specs.Reading.{countSize, partAt, numbersAt, zeros, padded}
+use Rattle.packet.proofs.Column.{count-size}
 
 pub lead-is : (f : Form) (s : Sort) → rowOf f .sort ≡ s → partAt (rowOf f) ≡ size (rowOf f .before) + countSize s
 unfolding partAt

@@ -20,10 +20,12 @@ use Rattle.format.proofs.Tables.{fine-append, size-times, unmet-fine}
 use Rattle.packet.specs.declared.Form.{Form}
 use Rattle.packet.specs.declared.Sort.{Sort}
 use Rattle.packet.specs.declared.Sort.the-variants as sort
-use Rattle.packet.specs.Table.{Row, typeOf, contentBytes, rowOf, countLine, countIn, contentLines, code, ending, packet}
-use Rattle.packet.specs.Reading.{lengthIn, codesIn, formIn, contentAt, contentSize, countOf, partAt, tableOf, valuesIn, sizeBad, lengthBad, fieldBad, readCases, readAnswer, textAnswer, textOf, bodyOf, hasEntries}
+use Rattle.packet.specs.Table.{Row, contentBytes, rowOf, countLine, countIn, contentLines, code, ending, packet}
+use Rattle.packet.specs.declared.Sizes.{Sizes}
+use Rattle.packet.proofs.Good.{good}
+use Rattle.packet.specs.Reading.{isUnknown, sizesOf, lengthIn, codesIn, formIn, contentAt, contentSize, countOf, partAt, tableOf, valuesIn, sizeBad, lengthBad, fieldBad, readCases, readAnswer, textAnswer, textOf, bodyOf, hasEntries}
 use Rattle.packet.proofs.Forms.{below-not}
-use Rattle.packet.proofs.Sizes.{count-size, content-size, column}
+use Rattle.packet.proofs.Column.{count-size, content-size, column}
 use Rattle.packet.proofs.Accepted.{no-size}
 pub use Rattle.packet.proofs.Accepted.{Sized, sized, Accepted, accepted, right-size, text-there, text-inside, body-inside, later, later-not, text-later}
 
@@ -147,18 +149,18 @@ module _ (b : List ℕ) where
   says-20 e = sym (stop _ _ e)
 
   module _ (s : sizeBad b ≡ false) where
-    pub says-23 : typeOf (formIn b) ≡ 31 → 23 ≡ readAnswer b
+    pub says-23 : isUnknown (formIn b) ≡ true → 23 ≡ readAnswer b
     unfolding readAnswer
-    says-23 e = sym (pass _ _ s ∙ stop _ _ (eq-eqb _ _ e))
+    says-23 e = sym (pass _ _ s ∙ stop _ _ e)
 
-    module _ (u : typeOf (formIn b) ≡ 31 → ⊥) where
+    module _ (u : isUnknown (formIn b) ≡ false) where
       pub says-26 : lengthBad b ≡ true → 26 ≡ readAnswer b
       unfolding readAnswer
-      says-26 e = sym (pass _ _ s ∙ pass _ _ (ne-eqb _ _ u) ∙ stop _ _ e)
+      says-26 e = sym (pass _ _ s ∙ pass _ _ u ∙ stop _ _ e)
 
       pub then-lines : lengthBad b ≡ false → (a : ℕ) → a ≡ first (drop 3 (readCases b)) → a ≡ readAnswer b
       unfolding readAnswer
-      then-lines l a e = e ∙ sym (pass _ _ s ∙ pass _ _ (ne-eqb _ _ u) ∙ pass _ _ l)
+      then-lines l a e = e ∙ sym (pass _ _ s ∙ pass _ _ u ∙ pass _ _ l)
 
   pub says-24 : fine 24 (tableOf b) (valuesIn b) ≡ false → 24 ≡ first (drop 3 (readCases b))
   says-24 e = sym (stop _ _ (ap not e))
@@ -190,3 +192,20 @@ module _ (b : List ℕ) (n k : ℕ) (codes : n ≡ codesIn b) where
     pub body-part : readAnswer b ≡ 0 → k ≡ cond (hasEntries (formIn b)) 0 (countOf b) → take (3 + 12 * n + l / 8 + k - (3 + 12 * n + l / 8)) (drop (3 + 12 * n + l / 8) b) ≡ bodyOf b
     unfolding bodyOf
     body-part e f = let w : 3 + 12 * n + l / 8 + k - (3 + 12 * n + l / 8) ≡ k = omega arith in rw (w, e, f, lead, codes)
+
+-- the sizes of a kind's row, and how many at most
+pub record SizesOf (f : Form) (z : Sizes) : Type 0 where
+  pub lead : z .lead ≡ partAt (rowOf f)
+  pub each : z .each ≡ size (rowOf f .each)
+  pub rest : z .rest ≡ size (rowOf f .after)
+  pub lead-most : z .lead ≤ 160
+  pub each-most : z .each ≤ 40
+  pub rest-most : z .rest ≤ 96
+
+pub sizes : (f : Form) (z : Sizes) → z ≡ sizesOf f → SizesOf f z
+sizes f z e =
+    let l = ap (λ (x : Sizes). x .lead) e in
+    let r = ap (λ (x : Sizes). x .each) e in
+    let s = ap (λ (x : Sizes). x .rest) e in
+    let g = good f in
+    record { lead = l; each = r; rest = s; lead-most = omega (arith, l, g .lead); each-most = omega (arith, r, g .row); rest-most = omega (arith, s, g .rest) }

@@ -32,23 +32,6 @@ fn width(t: Line) -> usize
     t.n * t.w
 }
 
-// The bits of lines.
-pub(crate) fn lines_size(ts: Lines) -> usize
-    requires { ⌜ (ts .m ≤ 6) × (all sound (take (ts .m) (ts .all)) ≡ true) ⌝ }
-    ensures { λ r. ⌜ (r ≡ size (take (ts .m) (ts .all))) × (r ≤ 12288) ⌝ }
-{
-    let m = ts.m;
-    let all = ts.all;
-    let mut q: usize = 0;
-    let mut j: usize = 0;
-    while j < m {
-        let t = all[j];
-        q += width(t);
-        j += 1;
-    }
-    q
-}
-
 // A line is no concern of the answer k, or its numbers are as it says.
 fn line_fine(k: u8, t: Line, b: &[u8], p: usize) -> bool
     requires { ⌜ (sound t ≡ true) × (p < 65536) ⌝ }
@@ -101,15 +84,14 @@ fn lines_unmet(k: u8, ts: Lines) -> bool
     true
 }
 
-// The same of rows of lines, n of them; text has no line to test, so its bytes are passed over at once.
-pub(crate) fn rows_fine(k: u8, ts: Lines, n: usize, b: &[u8], p: usize) -> bool
-    requires { ⌜ (ts .m ≤ 6) × (all sound (take (ts .m) (ts .all)) ≡ true) × (size (take (ts .m) (ts .all)) ≤ 100) × (n < 256) × (p < 4000) ⌝ }
+// The same of rows of lines, n of them, of s bits each; text has no line to test, so its bytes are passed over at once.
+pub(crate) fn rows_fine(k: u8, ts: Lines, s: usize, n: usize, b: &[u8], p: usize) -> bool
+    requires { ⌜ (ts .m ≤ 6) × (all sound (take (ts .m) (ts .all)) ≡ true) × (s ≡ size (take (ts .m) (ts .all))) × (s ≤ 100) × (n < 256) × (p < 4000) ⌝ }
     ensures { λ r. ⌜ r ≡ fine k (times n (take (ts .m) (ts .all))) (decode (times n (take (ts .m) (ts .all))) (bits (now (b .entry))) p) ⌝ }
 {
     if lines_unmet(k, ts) {
         return true;
     }
-    let s = lines_size(ts);
     let mut q = p;
     let mut j: usize = 0;
     while j < n {

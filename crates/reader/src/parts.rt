@@ -72,51 +72,18 @@ pub(crate) fn form(b: &[u8]) -> Form
     packet::form_of(kind(b))
 }
 
-// ---- sizes of a kind's lines
-// The bits before what is repeated: the first lines, and the count where there is one.
-pub(crate) fn lead_of(f: Form) -> usize
-    ensures { λ r. ⌜ (r ≡ partAt (rowOf f)) × (r ≤ 160) ⌝ }
-{
-    let s = packet::row_of(f);
-    let ls = s.before;
-    let sort = s.sort;
-    let n = lines::lines_size(ls);
-    match sort {
-        Sort::Fixed => n,
-        Sort::Counted => n + 8,
-        Sort::Raw => n,
-        Sort::Unknown => n,
-    }
-}
-
-// The bits of what is repeated, and of the lines after it.
-pub(crate) fn each_of(f: Form) -> usize
-    ensures { λ r. ⌜ (r ≡ size (rowOf f .each)) × (r ≤ 40) ⌝ }
-{
-    let s = packet::row_of(f);
-    let ls = s.each;
-    lines::lines_size(ls)
-}
-
-pub(crate) fn rest_of(f: Form) -> usize
-    ensures { λ r. ⌜ (r ≡ size (rowOf f .after)) × (r ≤ 96) ⌝ }
-{
-    let s = packet::row_of(f);
-    let ls = s.after;
-    lines::lines_size(ls)
-}
-
+// ---- sizes and count of the content
 // How often the row stands in a content of m bytes from bit q on.
 fn count_in(f: Form, b: &[u8], q: usize, m: usize) -> usize
     requires { ⌜ q < 30000 ⌝ }
     ensures { λ r. ⌜ r ≡ countIn (rowOf f) (bits (now (b .entry))) q m ⌝ }
 {
     let s = packet::row_of(f);
-    let ls = s.before;
+    let z = packet::sizes_of(f);
     let sort = s.sort;
     match sort {
         Sort::Fixed => 0,
-        Sort::Counted => lines::small(b, q + lines::lines_size(ls), 8) as usize,
+        Sort::Counted => lines::small(b, q + z.lead - 8, 8) as usize,
         Sort::Raw => m,
         Sort::Unknown => 0,
     }
@@ -147,14 +114,15 @@ pub(crate) fn text_length(b: &[u8]) -> usize
 pub(crate) fn lead(b: &[u8]) -> usize
     ensures { λ r. ⌜ (r ≡ partAt (rowOf (formIn (now (b .entry))))) × (r ≤ 160) ⌝ }
 {
-    lead_of(form(b))
+    let z = packet::sizes_of(form(b));
+    z.lead
 }
 
 // As many bytes as the content has, and none where it has entries.
 pub(crate) fn bytes_count(b: &[u8]) -> usize
     ensures { λ r. ⌜ r ≡ cond (hasEntries (formIn (now (b .entry)))) 0 (countOf (now (b .entry))) ⌝ }
 {
-    if packet::type_of(form(b)) == 0 {
+    if packet::has_entries(form(b)) {
         0
     } else {
         count(b)
@@ -337,7 +305,7 @@ pub(crate) fn entries(b: &[u8]) -> [u8; 272]
     requires { ⌜ length (now b) ≤ 250 ⌝ }
     ensures { λ r. ⌜ r ≡ padded 272 (cond (hasEntries (formIn (now (b .entry)))) (bodyIn (now (b .entry))) []) ⌝ }
 {
-    if packet::type_of(form(b)) == 0 {
+    if packet::has_entries(form(b)) {
         let n = codes_count(b);
         let k = count(b);
         entries_in(b, 24 + 96 * n + 8, k)

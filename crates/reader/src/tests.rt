@@ -37,7 +37,8 @@ fn length_bad(b: &[u8]) -> bool
     let f = parts::form(b);
     let k = parts::count(b);
     let m = parts::content_size(b);
-    parts::lead_of(f) + k * parts::each_of(f) + parts::rest_of(f) != 8 * m
+    let z = packet::sizes_of(f);
+    z.lead + k * z.each + z.rest != 8 * m
 }
 
 // No line of a content from bit q on is due the answer a.
@@ -49,14 +50,15 @@ fn content_fine(a: u8, f: Form, k: usize, b: &[u8], q: usize) -> bool
     let before = s.before;
     let each = s.each;
     let after = s.after;
-    let p = q + parts::lead_of(f);
+    let z = packet::sizes_of(f);
+    let p = q + z.lead;
     if !lines::lines_fine(a, before, b, q) {
         return false;
     }
-    if !lines::rows_fine(a, each, k, b, p) {
+    if !lines::rows_fine(a, each, z.each, k, b, p) {
         return false;
     }
-    lines::lines_fine(a, after, b, p + k * parts::each_of(f))
+    lines::lines_fine(a, after, b, p + k * z.each)
 }
 
 // No line of the codes, and none of what follows the content, which ends at bit e.
@@ -66,7 +68,7 @@ fn frame_fine(a: u8, n: usize, b: &[u8], e: usize) -> bool
 {
     let code = packet::code_lines();
     let ending = packet::ending_lines();
-    if !lines::rows_fine(a, code, n, b, 24) {
+    if !lines::rows_fine(a, code, 96, n, b, 24) {
         return false;
     }
     lines::lines_fine(a, ending, b, e)
@@ -113,7 +115,7 @@ pub(crate) fn answer(b: &[u8]) -> u8
     if size_bad(b) {
         return 20;
     }
-    if packet::type_of(parts::form(b)) == 31 {
+    if packet::is_unknown(parts::form(b)) {
         return 23;
     }
     if length_bad(b) {

@@ -1,10 +1,10 @@
 -- Where telling is not refused, each part is a packet that the writer takes, and the reader reads it as that part. Assumes nothing.
 use mathlib.Core.Path.{_≡_, refl, sym, ap, _∙_}
 use mathlib.Core.List.{List, [], _∷_}
-use mathlib.Core.Bool.{true, not, _&&_}
+use mathlib.Core.Bool.{true, not, _&&_, and-true}
 use Prim.Native.Nat.{ℕ, zero, suc, _+_, _*_, _/_, _%_, _≤_, _<_}
 use native.Mathlib.Omega.{arith}
-use lib.ListN.{length, take, drop, getD, length-append, drop-of-length-le}
+use lib.ListN.{length, take, drop, getD, length-append, drop-of-length-le, take-append-drop}
 use lib.Seq.{length-take-le, take-all}
 use lib.Dec.{leb, ltb, eqb}
 use borrow.Author.Tests.{le-leb, eq-eqb, le-ltb, not-false}
@@ -12,21 +12,21 @@ use Rattle.laws.specs.Scan.{all}
 use Rattle.laws.specs.Refusals.{first}
 use Rattle.laws.specs.Bits.{Under}
 use Rattle.laws.proofs.Bits.{under-append, length-run}
-use Rattle.laws.proofs.Cases.{and-both, and-yes, or-no, or-both}
+use Rattle.laws.proofs.Cases.{and-both, and-yes, and-left, or-no, or-both}
 use Rattle.laws.proofs.Refusals.{not-due, pass, none-left}
 use Rattle.format.specs.Format.{octets, times, size, need, encode, fill, inside, fine, unmet}
 use Rattle.format.proofs.Tables.{unmet-fine, all-times}
 use Rattle.packet.specs.declared.Fields.{Fields}
 use Rattle.packet.specs.declared.Opened.{Opened}
 use Rattle.packet.specs.declared.Form.the-variants.{Text}
+use Rattle.packet.specs.declared.Content.the-variants as content
 use Rattle.packet.specs.Table.{rowOf, formOf, typeOf, code}
 use Rattle.packet.specs.Content.{numbersOf}
 use Rattle.packet.specs.Reading.{isUnknown, partAt, opened, textAnswer}
-use Rattle.packet.specs.Writing.{sizeFor, tableFor, valuesFor, bodyFor, bytesFor, countBad, digitBad, notTaken, writtenAnswer}
-use Rattle.packet.proofs.Sizes.{content-size}
-use Rattle.writer.specs.Parts.{Counts, contentSize}
-use Rattle.writer.specs.Ranges.{rangeFine, rowsFine}
-use Rattle.writer.proofs.Fine.{inside-append, inside-take}
+use Rattle.packet.specs.Writing.{frontFor, sizeFor, tableFor, valuesFor, bodyFor, bytesFor, countBad, digitBad, notTaken, writtenAnswer}
+use Rattle.packet.proofs.Column.{content-size}
+use Rattle.writer.specs.Parts.{Counts, contentSize, frontFine, rowsFine, backFine}
+use Rattle.writer.proofs.Fine.{inside-append}
 use Rattle.writer.proofs.Digits.{fine-25, fine-27}
 use Rattle.writer.proofs.Together.{code-size, packet-long}
 use Rattle.writer.proofs.Size.{content-bits}
@@ -59,6 +59,10 @@ unfolding inside
 fours x =
     let digit : (y : ℕ) → (leb 0 (y % 10) && leb (y % 10) 9) ≡ true = λ y. and-yes _ (le-leb 0 (y % 10) (omega arith)) ∙ le-leb (y % 10) 9 (omega arith) in
     and-yes _ (digit (x / 1000)) ∙ and-yes _ (digit (x / 100)) ∙ and-yes _ (digit (x / 10)) ∙ and-yes _ (digit x)
+
+inside-take : (lo hi n : ℕ) (xs : List ℕ) → inside lo hi xs ≡ true → inside lo hi (take n xs) ≡ true
+inside-take lo hi n xs h =
+    and-left (inside lo hi (take n xs)) (inside lo hi (drop n xs)) (sym (inside-append lo hi (take n xs) (drop n xs)) ∙ ap (inside lo hi) (take-append-drop n xs) ∙ h)
 
 pub number-inside : (ds : List ℕ) (k : ℕ) → inside 0 9 ds ≡ true → inside 0 9 (numberAfter ds k) ≡ true
 unfolding numberAfter
@@ -96,6 +100,21 @@ counts-of : (s : Story) (ds : List ℕ) (t : ℕ) (codes body : List ℕ) → le
 unfolding bodyFor need
 counts-of s ds t codes body n c = record { bodied = ap length (take-all (t * 1) body (omega arith)) ∙ omega arith; coded = c }
 
+-- the first lines of a text: its digits are digits, and its ranges do not go by its digits and its length
+text-digits : (k z t : ℕ) (ds : List ℕ) → inside 0 9 ds ≡ true → frontFine 25 (content.Text k z t) ds ≡ true
+unfolding fine fill frontFor need
+text-digits k z t ds h = and-true (inside 0 9 (take 35 (take 35 ds))) ∙ inside-take 0 9 35 (take 35 ds) (inside-take 0 9 35 ds h)
+
+text-range : (k z t u : ℕ) (ds es : List ℕ) → frontFine 27 (content.Text k z t) ds ≡ frontFine 27 (content.Text k z u) es
+unfolding fine fill frontFor need inside
+text-range k z t u ds es = refl
+
+-- and there are no last lines
+text-lines : (a k z t : ℕ) (ds body : List ℕ) → frontFine a (content.Text k z t) ds ≡ true → rowsFine a (content.Text k z t) body ≡ true
+    → (frontFine a (content.Text k z t) ds && (rowsFine a (content.Text k z t) body && backFine a (content.Text k z t) ds)) ≡ true
+unfolding fine
+text-lines a k z t ds body e f = rw (e, f)
+
 module _ (s : Story) (codes : List ℕ) (y : Lengths s) (own : first (ownCases s codes) ≡ 0) where
   bare-taken : Taken (bare s) codes (headOf 1 1)
   bare-taken = taken (bare s) codes (headOf 1 1) 250 (own-written s codes own)
@@ -108,14 +127,14 @@ module _ (s : Story) (codes : List ℕ) (y : Lengths s) (own : first (ownCases s
 
   bare-25 : (inside 0 9 codes ≡ true) × (inside 0 9 (s .certificate) ≡ true)
   bare-25 =
-      let e = sym (fine-25 (bare s) codes (headOf 1 1) bare-counts (y .digits-long) (y .certificate-long) (y .signature-long) (own-digits s codes own)) ∙ bare-taken .c25 in
+      let e = sym (fine-25 (bare s) codes (headOf 1 1) bare-counts (y .digits-long) (y .certificate-long) (y .signature-long)) ∙ bare-taken .c25 in
       let p = and-both (inside 0 9 codes) _ e in
-      (p .0, and-both (rowsFine 25 (bare s .content) (headOf 1 1)) (inside 0 9 (s .certificate)) (p .1) .1)
+      (p .0, and-both (frontFine 25 (bare s .content) (s .digits) && (rowsFine 25 (bare s .content) (headOf 1 1) && backFine 25 (bare s .content) (s .digits))) (inside 0 9 (s .certificate)) (p .1) .1)
 
-  bare-27 : rangeFine (bare s .content) ≡ true
+  bare-27 : frontFine 27 (bare s .content) (s .digits) ≡ true
   bare-27 =
       let e = sym (fine-27 (bare s) codes (headOf 1 1) bare-counts (y .digits-long) (y .certificate-long) (y .signature-long)) ∙ bare-taken .c27 in
-      and-both (rangeFine (bare s .content)) _ e .0
+      and-both (frontFine 27 (bare s .content) (s .digits)) _ e .0
 
   pub text-taken : (ds : List ℕ) (t : ℕ) (body : List ℕ) → length ds ≡ 35 → inside 0 9 ds ≡ true → length body ≡ t → 97 + 12 * s .codes + t ≤ 250 → Taken (fieldsWith s ds t) codes body
   unfolding need inside
@@ -127,11 +146,11 @@ module _ (s : Story) (codes : List ℕ) (y : Lengths s) (own : first (ownCases s
         few = bare-taken .few;
         codes-long = bare-taken .codes-long;
         lent = ap not (and-yes _ (le-leb t 255 (omega arith)) ∙ eq-eqb (length body) (t * 1) (omega arith));
-        c25 = fine-25 f codes body c l (y .certificate-long) (y .signature-long) d ∙ and-yes _ (bare-25 .0) ∙ and-yes _ (octets-fine 25 t (fill (times t (octets 1 ∷ [])) (bodyFor (f .content) body)) refl) ∙ bare-25 .1;
+        c25 = fine-25 f codes body c l (y .certificate-long) (y .signature-long) ∙ and-yes _ (bare-25 .0) ∙ and-yes _ (text-lines 25 (s .kind) 0 t ds body (text-digits (s .kind) 0 t ds d) (octets-fine 25 t (fill (times t (octets 1 ∷ [])) (bodyFor (f .content) body)) refl)) ∙ bare-25 .1;
         form = bare-taken .form;
         body-kept = refl;
         digits-kept = ends ds l;
-        c27 = fine-27 f codes body c l (y .certificate-long) (y .signature-long) ∙ and-yes _ bare-27 ∙ octets-fine 27 t (fill (times t (octets 1 ∷ [])) (bodyFor (f .content) body)) refl;
+        c27 = fine-27 f codes body c l (y .certificate-long) (y .signature-long) ∙ text-lines 27 (s .kind) 0 t ds body (text-range (s .kind) 0 t 4 ds (s .digits) ∙ bare-27) (octets-fine 27 t (fill (times t (octets 1 ∷ [])) (bodyFor (f .content) body)) refl);
         day = refl;
         small = omega (arith, text-size s ds t body);
       }

@@ -23,7 +23,7 @@ use Rattle.packet.specs.Table.{Row, rowOf, countLine, countIn, contentLines, co
 use Rattle.packet.specs.Content.{contentOf, countFor}
 use Rattle.packet.specs.Reading.{kindIn, codesIn, formIn, contentAt, contentSize, countOf, partAt, tableOf, valuesIn, digitsIn, padded, fieldsOf}
 use Rattle.packet.specs.Writing.{lentBad, bodyLost}
-use Rattle.packet.proofs.Sizes.{content-size}
+use Rattle.packet.proofs.Column.{content-size}
 use Rattle.trips.proofs.Parts as parts
 use Rattle.trips.proofs.Contents as contents
 
@@ -83,10 +83,10 @@ only-none t n h = go (eqb t 1) refl
     go true e = ap₂ (λ (x y : Bool). x && not y) e (eq-eqb n 0 (h (eqb-true t 1 e)))
     go false e = and-no _ e
 
-pub lent-right : (r : Row) (b : List ℕ) (k : ℕ) (body : List ℕ) (q m : ℕ) → k ≡ countIn r (bits b) q m → length body ≡ k * need (r .each) → lentBad (r .sort) k (need (r .each)) body ≡ false
+pub lent-right : (r : Row) (b : List ℕ) (k : ℕ) (body : List ℕ) (q m : ℕ) → k ≡ countIn r (bits b) q m → length body ≡ k * need (r .each) → lentBad (r .sort) k (need (r .each)) (length body) ≡ false
 lent-right r b k body q m h n = go (r .sort) refl
   where
-    go : (s : Sort) → r .sort ≡ s → lentBad (r .sort) k (need (r .each)) body ≡ false
+    go : (s : Sort) → r .sort ≡ s → lentBad (r .sort) k (need (r .each)) (length body) ≡ false
     go sort.Fixed e = rw e
     go sort.Counted e =
         let c : k ≡ at (bits b) (q + size (r .before)) 8 = rw e at h in
@@ -94,10 +94,10 @@ lent-right r b k body q m h n = go (r .sort) refl
     go sort.Raw e = rw e
     go sort.Unknown e = rw e
 
-pub body-right : (r : Row) (b : List ℕ) (k : ℕ) (body : List ℕ) (q m : ℕ) → k ≡ countIn r (bits b) q m → length body ≡ k * need (r .each) → bodyLost (r .sort) body ≡ false
+pub body-right : (r : Row) (b : List ℕ) (k : ℕ) (body : List ℕ) (q m : ℕ) → k ≡ countIn r (bits b) q m → length body ≡ k * need (r .each) → bodyLost (r .sort) (length body) ≡ false
 body-right r b k body q m h n = go (r .sort) refl
   where
-    go : (s : Sort) → r .sort ≡ s → bodyLost (r .sort) body ≡ false
+    go : (s : Sort) → r .sort ≡ s → bodyLost (r .sort) (length body) ≡ false
     go sort.Fixed e =
         let c : k ≡ 0 = rw e at h in
         rw e (ap not (eq-eqb (length body) 0 (n ∙ ap (λ (x : ℕ). x * need (r .each)) c ∙ zero-mul (need (r .each)))))

@@ -8,7 +8,7 @@ use native.Mathlib.Nat.{zero-mul}
 use native.Mathlib.Omega.{arith}
 use lib.ListN.{length, take, drop, length-append, length-drop, take-append-drop}
 use lib.Seq.{length-take-le, take-all, drop-at}
-use borrow.Author.Tests.{eqb-true, le-leb, le-ltb, eq-eqb, ne-eqb}
+use borrow.Author.Tests.{le-leb, le-ltb, eq-eqb, ne-eqb}
 use Rattle.laws.specs.Bits.{at, run, bits, bytes}
 use Rattle.laws.specs.Scan.{all}
 use Rattle.laws.proofs.Bits.{Under, at-small}
@@ -19,7 +19,6 @@ use Rattle.format.specs.Format.{times, octets, size, encode, decode, need, fill
 use Rattle.format.proofs.Tables.{unmet-fine, all-times, settled, fill-flat, length-flat, need-times, fine-append}
 use Rattle.format.proofs.Round.{write-read}
 use Rattle.packet.specs.declared.Form.{Form}
-use Rattle.packet.specs.declared.Form.the-variants.{Frequencies}
 use Rattle.packet.specs.declared.Fields.{Fields}
 use Rattle.packet.specs.declared.Opened.{Opened}
 use Rattle.packet.specs.Table.{formOf, typeOf, contentBytes, rowOf, countLine, contentLines, code, ending, packet}
@@ -27,14 +26,15 @@ use Rattle.packet.specs.Content.{formFor, numbersOf, numbersIn, countFor, noSuc
 use Rattle.packet.specs.Reading.{kindIn, codesIn, formIn, contentAt, contentSize, countOf, partAt, tableOf, valuesIn, numbersAt, frontIn, bodyIn, backIn, contentIn, digitsIn, zeros, padded, codesOf, hasEntries, fieldsOf, isUnknown, readAnswer, openedBy, opened, partBy, bodyOf}
 use Rattle.packet.specs.Writing.{rowFor, digitsBefore, digitsAfter, frontFor, backFor, bodyFor, sizeFor, tableFor, numbersFor, valuesFor, bytesFor, lentBad, countBad, digitBad, otherType, bodyLost, digitsLost, notTaken, writtenAnswer, writtenBy, written, outputBy, packetOutput}
 use Rattle.packet.proofs.Accepted.{Accepted, accepted}
-use Rattle.packet.proofs.Forms as forms
-use Rattle.packet.proofs.Sizes.{content-size}
+use Rattle.packet.proofs.Column.{content-size}
 use Rattle.trips.proofs.Parts as parts
 use Rattle.trips.proofs.Contents as contents
 use Rattle.trips.proofs.Octets.{octets-at, run-bytes}
 use Rattle.trips.proofs.Taken.{octet-size}
 use Rattle.trips.proofs.Padded.{padded-is, take-padded, rest-zeros, inside-append, wider}
-use Rattle.trips.proofs.EachKind.{form-of, numbers-back, count-for, numbers-few, places, front-digits, back-digits, unmet-26}
+use Rattle.trips.proofs.EachKind.{form-of, numbers-back, count-for, places, front-digits, back-digits}
+use Rattle.packet.proofs.Good.{good}
+use Rattle.packet.proofs.Contents.{Repeated, entries, octet, nothing, repeated, entries-only}
 use Rattle.trips.proofs.Accepted.{of-count, code-26, ending-26, heading, count-26, settled-table, table-25, digits-of, later-true, only-none, lent-right, body-right, entries-few, entries-count}
 use Rattle.trips.proofs.Fitting.{nil-of}
 use Rattle.trips.proofs.Answers.{read-answer, write-answer}
@@ -78,12 +78,12 @@ module _ (b : List ℕ) (z : Accepted b) where
   spare-long = length-drop (numbersIn (formIn b)) (frontIn b) ∙ ap (λ (n : ℕ). n - numbersIn (formIn b)) front-long
 
   numbers-are : numbersOf (contentIn b) ≡ take (numbersIn (formIn b)) (frontIn b)
-  numbers-are = numbers-back (formIn b) (frontIn b) (countOf b) (omega (arith, numbers-few (formIn b), front-long))
+  numbers-are = numbers-back (formIn b) (frontIn b) (countOf b) (omega (arith, good (formIn b) .numbered, front-long))
 
   before-is : digitsBefore (contentIn b) ≡ need (rowOf (formIn b) .before) - numbersIn (formIn b)
   before-is =
       ap₂ (λ (g : Form) (xs : List ℕ). need (rowOf g .before) - length xs) form-is numbers-are
-      ∙ ap (λ (n : ℕ). need (rowOf (formIn b) .before) - n) (length-take-le (numbersIn (formIn b)) (frontIn b) (omega (arith, numbers-few (formIn b), front-long)))
+      ∙ ap (λ (n : ℕ). need (rowOf (formIn b) .before) - n) (length-take-le (numbersIn (formIn b)) (frontIn b) (omega (arith, good (formIn b) .numbered, front-long)))
 
   after-is : digitsAfter (contentIn b) ≡ need (rowOf (formIn b) .after)
   after-is = ap (λ (g : Form). need (rowOf g .after)) form-is
@@ -164,7 +164,7 @@ module _ (b : List ℕ) (z : Accepted b) where
       let k = countOf b in
       let l = bits b in
       let n = codesIn b in
-      let a26 = unmet-26 (formIn b) in
+      let f26 = contents.fair (formIn b) in
       let L = countLine (g .sort) k in
       let M = times k (g .each) in
       let K = g .before ++ (L ++ (M ++ g .after)) in
@@ -174,9 +174,9 @@ module _ (b : List ℕ) (z : Accepted b) where
       (fine-append 26 (times n code) (K ++ ending) l 24 ∙ and-yes _ (unmet-fine 26 (times n code) _ (all-times (unmet 26) n code code-26))
       ∙ fine-append 26 K ending l p0
       ∙ ap₂ _&&_
-      (fine-append 26 (g .before) (L ++ (M ++ g .after)) l p0 ∙ and-yes _ (unmet-fine 26 (g .before) _ (a26 .0))
+      (fine-append 26 (g .before) (L ++ (M ++ g .after)) l p0 ∙ and-yes _ (unmet-fine 26 (g .before) _ (f26 .unmet1))
       ∙ fine-append 26 L (M ++ g .after) l (p0 + size (g .before)) ∙ and-yes _ c
-      ∙ fine-append 26 M (g .after) l (p0 + size (g .before) + size L) ∙ and-yes _ (unmet-fine 26 M _ (all-times (unmet 26) k (g .each) (a26 .1 .0))) ∙ unmet-fine 26 (g .after) _ (a26 .1 .1))
+      ∙ fine-append 26 M (g .after) l (p0 + size (g .before) + size L) ∙ and-yes _ (unmet-fine 26 M _ (all-times (unmet 26) k (g .each) (f26 .unmet2))) ∙ unmet-fine 26 (g .after) _ (f26 .unmet3))
       (unmet-fine 26 ending _ ending-26))
 
   -- ---- the values and the bytes
@@ -214,7 +214,7 @@ module _ (b : List ℕ) (z : Accepted b) where
   no-26 =
       let n : codesIn b ≤ 255 = omega (arith, at-small b 16 8 8 (omega arith)) in
       ap₂ _||_ (ap not (ap₂ _&&_ (le-leb (codesIn b) 255 n) (eq-eqb (length (codesOf b)) (codesIn b * 23) codes-long)))
-      (ap₂ (λ (g : Form) (k : ℕ). lentBad (rowOf g .sort) k (need (rowOf g .each)) (bodyIn b)) form-is count-is ∙ lent-right (rowOf (formIn b)) b (countOf b) (bodyIn b) (contentAt b) (contentSize b) (of-count b) body-long)
+      (ap₂ (λ (g : Form) (k : ℕ). lentBad (rowOf g .sort) k (need (rowOf g .each)) (length (bodyIn b))) form-is count-is ∙ lent-right (rowOf (formIn b)) b (countOf b) (bodyIn b) (contentAt b) (contentSize b) (of-count b) body-long)
 
   no-25 : digitBad (fieldsOf b) (codesOf b) (bodyIn b) ≡ false
   unfolding digitBad
@@ -227,7 +227,7 @@ module _ (b : List ℕ) (z : Accepted b) where
   unfolding notTaken fieldsOf
   no-27 h =
       ap₂ _||_ (ap not (eq-eqb (typeOf (formIn b)) (typeOf (formFor (contentIn b))) (ap typeOf (sym form-is))))
-      (ap₂ _||_ (ap (λ (g : Form). bodyLost (rowOf g .sort) (bodyIn b)) form-is ∙ body-right (rowOf (formIn b)) b (countOf b) (bodyIn b) (contentAt b) (contentSize b) (of-count b) body-long)
+      (ap₂ _||_ (ap (λ (g : Form). bodyLost (rowOf g .sort) (length (bodyIn b))) form-is ∙ body-right (rowOf (formIn b)) b (countOf b) (bodyIn b) (contentAt b) (contentSize b) (of-count b) body-long)
       (ap₂ _||_ (ap not digits-over)
       (ap₂ _||_ (only-none (kindIn b) (codesIn b) h)
       (ap₂ _||_ (ap not (ap₂ (fine 27) table-is values-is ∙ z .c27)) (z .day)))))
@@ -243,7 +243,7 @@ module _ (b : List ℕ) (z : Accepted b) where
   unfolding writtenAnswer notTaken fieldsOf
   refused-is room k n =
       pass 23 _ no-23 ∙ pass 26 _ no-26 ∙ pass 25 _ no-25
-      ∙ stop 27 _ (later-true (otherType (fieldsOf b)) _ (later-true (bodyLost (rowFor (contentIn b) .sort) (bodyIn b)) _ (later-true (digitsLost (contentIn b) (padded 35 (digitsIn b))) _ (ap₂ (λ (x y : Bool). (x && not y) || (not (fine 27 (tableFor (fieldsOf b) (bodyIn b)) (valuesFor (fieldsOf b) (codesOf b) (bodyIn b))) || noSuchDay (contentIn b))) (eq-eqb (kindIn b) 1 k) (ne-eqb (codesIn b) 0 n)))))
+      ∙ stop 27 _ (later-true (otherType (fieldsOf b)) _ (later-true (bodyLost (rowFor (contentIn b) .sort) (length (bodyIn b))) _ (later-true (digitsLost (contentIn b) (padded 35 (digitsIn b))) _ (ap₂ (λ (x y : Bool). (x && not y) || (not (fine 27 (tableFor (fieldsOf b) (bodyIn b)) (valuesFor (fieldsOf b) (codesOf b) (bodyIn b))) || noSuchDay (contentIn b))) (eq-eqb (kindIn b) 1 k) (ne-eqb (codesIn b) 0 n)))))
 
   -- ---- what is lent for what was read
   codes-lent : take (codesIn b * 23) (padded 322 (codesOf b)) ≡ codesOf b
@@ -254,19 +254,19 @@ module _ (b : List ℕ) (z : Accepted b) where
   entries-lent : hasEntries (formIn b) ≡ true → take (length (bodyIn b)) (padded 272 (bodyIn b)) ≡ bodyIn b
   entries-lent h =
       ap (λ (xs : List ℕ). take (length (bodyIn b)) (padded 272 xs)) (sym (append-nil (bodyIn b)))
-      ∙ take-padded 272 (bodyIn b) [] (entries-few (formIn b) (countOf b) (bodyIn b) (contentSize b) (forms.same-form (formIn b) Frequencies (eqb-true _ _ h)) (z .right) body-long (omega (arith, z .most)))
+      ∙ take-padded 272 (bodyIn b) [] (entries-few (formIn b) (countOf b) (bodyIn b) (contentSize b) (entries-only (formIn b) h) (z .right) body-long (omega (arith, z .most)))
 
   part-lent : Under 256 b → hasEntries (formIn b) ≡ false → take (countOf b) (drop (3 + 12 * codesIn b + partAt (rowOf (formIn b)) / 8) b) ≡ bodyIn b
   unfolding bodyIn
-  part-lent u h = by (contents.repeated (contentIn b))
+  part-lent u h = by (repeated (formFor (contentIn b)))
     where
-      by : contents.Repeated (contentIn b) → take (countOf b) (drop (3 + 12 * codesIn b + partAt (rowOf (formIn b)) / 8) b) ≡ numbersAt (times (countOf b) (rowOf (formIn b) .each)) b (contentAt b + partAt (rowOf (formIn b)))
-      by (contents.entries e) = absurd (true≢false (sym (ap hasEntries (sym form-is) ∙ e) ∙ h))
-      by (contents.nothing e r c) =
-          let k0 : countOf b ≡ 0 = sym count-is ∙ c (bodyIn b) in
+      by : Repeated (formFor (contentIn b)) → take (countOf b) (drop (3 + 12 * codesIn b + partAt (rowOf (formIn b)) / 8) b) ≡ numbersAt (times (countOf b) (rowOf (formIn b) .each)) b (contentAt b + partAt (rowOf (formIn b)))
+      by (entries e s) = absurd (true≢false (sym (ap hasEntries (sym form-is) ∙ e) ∙ h))
+      by (nothing e r c) =
+          let k0 : countOf b ≡ 0 = sym count-is ∙ c _ (length (bodyIn b)) in
           ap (λ (k : ℕ). take k (drop (3 + 12 * codesIn b + partAt (rowOf (formIn b)) / 8) b)) k0
           ∙ sym (nil-of _ (length-flat (times (countOf b) (rowOf (formIn b) .each)) (bits b) (contentAt b + partAt (rowOf (formIn b))) ∙ need-times (countOf b) (rowOf (formIn b) .each) ∙ ap (λ (k : ℕ). k * need (rowOf (formIn b) .each)) k0 ∙ zero-mul (need (rowOf (formIn b) .each))))
-      by (contents.octet e r) =
+      by (octet e r) =
           let k = countOf b in
           let s = 3 + 12 * codesIn b + partAt (rowOf (formIn b)) / 8 in
           let g = contents.fair (formIn b) in
@@ -301,7 +301,7 @@ module _ (b : List ℕ) (u : Under 256 b) (e : readAnswer b ≡ 0) where
           let c1 : hasEntries (formFor (contentIn b)) ≡ true = ap hasEntries (form-is b acc) ∙ h in
           if-yes (take (countFor (contentIn b) [] * 8) (padded 272 (cond (hasEntries (formIn b)) (bodyIn b) []))) _ c1
           ∙ ap (λ (xs : List ℕ). take (countFor (contentIn b) [] * 8) (padded 272 xs)) (if-yes (bodyIn b) [] h)
-          ∙ ap (λ (n : ℕ). take n (padded 272 (bodyIn b))) (entries-count (formIn b) (frontIn b) (countOf b) (bodyIn b) (forms.same-form (formIn b) Frequencies (eqb-true _ _ h)) (body-long b acc))
+          ∙ ap (λ (n : ℕ). take n (padded 272 (bodyIn b))) (entries-count (formIn b) (frontIn b) (countOf b) (bodyIn b) (entries-only (formIn b) h) (body-long b acc))
           ∙ entries-lent b acc h
       by false h =
           let c1 : hasEntries (formFor (contentIn b)) ≡ false = ap hasEntries (form-is b acc) ∙ h in

@@ -1,31 +1,39 @@
 -- What holds of each kind of content, a clause a kind. Assumes nothing.
 use mathlib.Core.Path.{_≡_, refl}
-use mathlib.Core.Logic.{_⊎_, inl, inr}
-use mathlib.Core.List.{List, [], _∷_, _++_}
-use mathlib.Core.Bool.{true, false, _&&_}
-use Prim.Native.Nat.{ℕ, _+_, _*_, _%_, _≤_}
+use mathlib.Core.List.{List, [], _∷_}
+use mathlib.Core.Bool.{Bool, true, not, _&&_, _||_}
+use Prim.Native.Nat.{ℕ, _+_, _*_, _%_, _≤_, _<_}
 use native.Mathlib.Omega.{arith}
-use lib.ListN.{length}
-use lib.Dec.{leb}
+use lib.ListN.{length, getD}
+use lib.Dec.{leb, eqb}
 use Rattle.laws.specs.Scan.{all}
 use Rattle.laws.specs.Bits.{at, run}
 use Rattle.laws.proofs.Cases.{and-left, and-both}
-use borrow.Author.Tests.{leb-true}
+use borrow.Author.Tests.{leb-true, eqb-true}
+use Rattle.laws.proofs.Elements.{all-at}
 use native.Mathlib.Nat.{le-antisymm}
-use Rattle.format.specs.Format.{just, octets, size, need, decode, inside, fine}
+use Rattle.format.specs.Format.{just, size, decode, inside, fine, unmet}
+use Rattle.format.specs.declared.Line.{Line}
 use Rattle.format.proofs.Tables.{given, settled}
 use Rattle.packet.specs.declared.Form.{Form}
-use Rattle.packet.specs.declared.Form.the-variants.{Frequencies, Address, Keep, Clock, Reset, Factory, Drill, Text, Command, Hold, Raw, Unknown}
+use Rattle.packet.specs.declared.Form.the-variants.{Text, Raw}
 use Rattle.packet.specs.declared.Content.{Content}
 use Rattle.packet.specs.declared.Content.the-variants as content
 use Rattle.packet.specs.Table.{rowOf, countLine, countIn, contentLines}
-use Rattle.packet.proofs.Sizes.{content-size}
-use Rattle.packet.specs.Content.{contentOf, formFor, numbersOf, numbersIn, countFor}
-use Rattle.packet.specs.Reading.{partAt, hasEntries}
+use Rattle.packet.proofs.Column.{content-size}
+use Rattle.packet.specs.Content.{formFor, countFor}
+use Rattle.packet.specs.Reading.{partAt}
 use Rattle.packet.specs.Writing.{rowFor, digitsBefore, digitsAfter}
+use Rattle.packet.proofs.Each.{kinds, each-kind}
+use Rattle.packet.proofs.Good.{good}
+use Rattle.packet.proofs.Contents.{numbers-long}
 use Rattle.trips.proofs.Fitting.{tight}
 
--- the lines of a row: each has a width for its numbers, those of 24 and 26 are the table's, and a line that is not free is settled
+-- a line that answer 0 is about has bytes
+abbrev pub byteLine : Line → Bool
+byteLine t = not (eqb (t .other) 0) || (eqb (t .lo) 0 && (eqb (t .hi) 255 && t .free))
+
+-- the lines of a row: each has a width for its numbers, those of 24 and 26 are the table's, a line that is not free is settled, and no other is due 26
 pub record Fair (f : Form) : Type 0 where
   pub tight1 : all tight (rowOf f .before) ≡ true
   pub tight2 : all tight (rowOf f .each) ≡ true
@@ -42,92 +50,61 @@ pub record Fair (f : Form) : Type 0 where
   pub even1 : partAt (rowOf f) % 8 ≡ 0
   pub even2 : size (rowOf f .each) % 8 ≡ 0
   pub even3 : size (rowOf f .after) % 8 ≡ 0
+  pub unmet1 : all (unmet 26) (rowOf f .before) ≡ true
+  pub unmet2 : all (unmet 26) (rowOf f .each) ≡ true
+  pub unmet3 : all (unmet 26) (rowOf f .after) ≡ true
+  pub bytes : all byteLine (rowOf f .each) ≡ true
+  pub after : all (unmet 0) (rowOf f .after) ≡ true
+
+-- the tests, one by one
+abbrev tests : Form → List Bool
+tests f =
+    all tight (rowOf f .before) ∷ all tight (rowOf f .each) ∷ all tight (rowOf f .after)
+    ∷ all (given 24) (rowOf f .before) ∷ all (given 24) (rowOf f .each) ∷ all (given 24) (rowOf f .after)
+    ∷ all (given 26) (rowOf f .before) ∷ all (given 26) (rowOf f .each) ∷ all (given 26) (rowOf f .after)
+    ∷ all settled (rowOf f .before) ∷ all settled (rowOf f .each) ∷ all settled (rowOf f .after)
+    ∷ eqb (partAt (rowOf f) % 8) 0 ∷ eqb (size (rowOf f .each) % 8) 0 ∷ eqb (size (rowOf f .after) % 8) 0
+    ∷ all (unmet 26) (rowOf f .before) ∷ all (unmet 26) (rowOf f .each) ∷ all (unmet 26) (rowOf f .after)
+    ∷ all byteLine (rowOf f .each) ∷ all (unmet 0) (rowOf f .after)
+    ∷ []
+
+abbrev passed : Form → Bool
+passed f = all (λ (b : Bool). b) (tests f)
+
+all-pass : all passed kinds ≡ true
+unfolding all size partAt
+all-pass = refl
 
 pub fair : (f : Form) → Fair f
-unfolding all size partAt
-fair Frequencies = record { tight1 = refl; tight2 = refl; tight3 = refl; given1 = refl; given2 = refl; given3 = refl; count1 = refl; count2 = refl; count3 = refl; settled1 = refl; settled2 = refl; settled3 = refl; even1 = refl; even2 = refl; even3 = refl }
-fair Address = record { tight1 = refl; tight2 = refl; tight3 = refl; given1 = refl; given2 = refl; given3 = refl; count1 = refl; count2 = refl; count3 = refl; settled1 = refl; settled2 = refl; settled3 = refl; even1 = refl; even2 = refl; even3 = refl }
-fair Keep = record { tight1 = refl; tight2 = refl; tight3 = refl; given1 = refl; given2 = refl; given3 = refl; count1 = refl; count2 = refl; count3 = refl; settled1 = refl; settled2 = refl; settled3 = refl; even1 = refl; even2 = refl; even3 = refl }
-fair Clock = record { tight1 = refl; tight2 = refl; tight3 = refl; given1 = refl; given2 = refl; given3 = refl; count1 = refl; count2 = refl; count3 = refl; settled1 = refl; settled2 = refl; settled3 = refl; even1 = refl; even2 = refl; even3 = refl }
-fair Reset = record { tight1 = refl; tight2 = refl; tight3 = refl; given1 = refl; given2 = refl; given3 = refl; count1 = refl; count2 = refl; count3 = refl; settled1 = refl; settled2 = refl; settled3 = refl; even1 = refl; even2 = refl; even3 = refl }
-fair Factory = record { tight1 = refl; tight2 = refl; tight3 = refl; given1 = refl; given2 = refl; given3 = refl; count1 = refl; count2 = refl; count3 = refl; settled1 = refl; settled2 = refl; settled3 = refl; even1 = refl; even2 = refl; even3 = refl }
-fair Drill = record { tight1 = refl; tight2 = refl; tight3 = refl; given1 = refl; given2 = refl; given3 = refl; count1 = refl; count2 = refl; count3 = refl; settled1 = refl; settled2 = refl; settled3 = refl; even1 = refl; even2 = refl; even3 = refl }
-fair Text = record { tight1 = refl; tight2 = refl; tight3 = refl; given1 = refl; given2 = refl; given3 = refl; count1 = refl; count2 = refl; count3 = refl; settled1 = refl; settled2 = refl; settled3 = refl; even1 = refl; even2 = refl; even3 = refl }
-fair Command = record { tight1 = refl; tight2 = refl; tight3 = refl; given1 = refl; given2 = refl; given3 = refl; count1 = refl; count2 = refl; count3 = refl; settled1 = refl; settled2 = refl; settled3 = refl; even1 = refl; even2 = refl; even3 = refl }
-fair Hold = record { tight1 = refl; tight2 = refl; tight3 = refl; given1 = refl; given2 = refl; given3 = refl; count1 = refl; count2 = refl; count3 = refl; settled1 = refl; settled2 = refl; settled3 = refl; even1 = refl; even2 = refl; even3 = refl }
-fair Raw = record { tight1 = refl; tight2 = refl; tight3 = refl; given1 = refl; given2 = refl; given3 = refl; count1 = refl; count2 = refl; count3 = refl; settled1 = refl; settled2 = refl; settled3 = refl; even1 = refl; even2 = refl; even3 = refl }
-fair Unknown = record { tight1 = refl; tight2 = refl; tight3 = refl; given1 = refl; given2 = refl; given3 = refl; count1 = refl; count2 = refl; count3 = refl; settled1 = refl; settled2 = refl; settled3 = refl; even1 = refl; even2 = refl; even3 = refl }
-
--- a content comes back from its numbers, whatever stands after them, and its count
-pub content-back : (c : Content) (rest body : List ℕ) → contentOf (formFor c) (numbersOf c ++ rest) (countFor c body) ≡ c
-content-back content.Raw rest body = refl
-content-back (content.Frequencies k) rest body = refl
-content-back (content.Address m) rest body = refl
-content-back (content.Keep on period) rest body = refl
-content-back (content.Clock year month day hour minute second) rest body = refl
-content-back (content.Reset change) rest body = refl
-content-back content.Factory rest body = refl
-content-back (content.Drill action) rest body = refl
-content-back (content.Text kind set t) rest body = refl
-content-back (content.Command k) rest body = refl
-content-back (content.Hold serial) rest body = refl
-
--- it has as many numbers as its kind
-pub numbers-long : (c : Content) → length (numbersOf c) ≡ numbersIn (formFor c)
-numbers-long content.Raw = refl
-numbers-long (content.Frequencies k) = refl
-numbers-long (content.Address m) = refl
-numbers-long (content.Keep on period) = refl
-numbers-long (content.Clock year month day hour minute second) = refl
-numbers-long (content.Reset change) = refl
-numbers-long content.Factory = refl
-numbers-long (content.Drill action) = refl
-numbers-long (content.Text kind set t) = refl
-numbers-long (content.Command k) = refl
-numbers-long (content.Hold serial) = refl
-
-pub numbers-need : (c : Content) → numbersIn (formFor c) ≤ need (rowFor c .before)
-unfolding need
-numbers-need content.Raw = omega arith
-numbers-need (content.Frequencies k) = omega arith
-numbers-need (content.Address m) = omega arith
-numbers-need (content.Keep on period) = omega arith
-numbers-need (content.Clock year month day hour minute second) = omega arith
-numbers-need (content.Reset change) = omega arith
-numbers-need content.Factory = omega arith
-numbers-need (content.Drill action) = omega arith
-numbers-need (content.Text kind set t) = omega arith
-numbers-need (content.Command k) = omega arith
-numbers-need (content.Hold serial) = omega arith
-
--- no kind has digits in both places, and none has more than 35
-pub one-place : (c : Content) → (digitsBefore c ≡ 0) ⊎ (digitsAfter c ≡ 0)
-unfolding need
-one-place content.Raw = inr refl
-one-place (content.Frequencies k) = inr refl
-one-place (content.Address m) = inl refl
-one-place (content.Keep on period) = inr refl
-one-place (content.Clock year month day hour minute second) = inr refl
-one-place (content.Reset change) = inr refl
-one-place content.Factory = inr refl
-one-place (content.Drill action) = inr refl
-one-place (content.Text kind set t) = inr refl
-one-place (content.Command k) = inr refl
-one-place (content.Hold serial) = inr refl
+fair f =
+    record {
+      tight1 = at 0 (omega arith);
+      tight2 = at 1 (omega arith);
+      tight3 = at 2 (omega arith);
+      given1 = at 3 (omega arith);
+      given2 = at 4 (omega arith);
+      given3 = at 5 (omega arith);
+      count1 = at 6 (omega arith);
+      count2 = at 7 (omega arith);
+      count3 = at 8 (omega arith);
+      settled1 = at 9 (omega arith);
+      settled2 = at 10 (omega arith);
+      settled3 = at 11 (omega arith);
+      even1 = eqb-true _ _ (at 12 (omega arith));
+      even2 = eqb-true _ _ (at 13 (omega arith));
+      even3 = eqb-true _ _ (at 14 (omega arith));
+      unmet1 = at 15 (omega arith);
+      unmet2 = at 16 (omega arith);
+      unmet3 = at 17 (omega arith);
+      bytes = at 18 (omega arith);
+      after = at 19 (omega arith);
+    }
+  where
+    at : (i : ℕ) → i < 20 → getD (tests f) i true ≡ true
+    at i l = all-at (λ (b : Bool). b) (tests f) i true (each-kind passed all-pass f) l
 
 pub few-digits : (c : Content) → digitsBefore c + digitsAfter c ≤ 35
-unfolding need
-few-digits content.Raw = omega arith
-few-digits (content.Frequencies k) = omega arith
-few-digits (content.Address m) = omega arith
-few-digits (content.Keep on period) = omega arith
-few-digits (content.Clock year month day hour minute second) = omega arith
-few-digits (content.Reset change) = omega arith
-few-digits content.Factory = omega arith
-few-digits (content.Drill action) = omega arith
-few-digits (content.Text kind set t) = omega arith
-few-digits (content.Command k) = omega arith
-few-digits (content.Hold serial) = omega arith
+few-digits c = omega (arith, numbers-long c, good (formFor c) .last)
 
 -- a count line without a fault of 26 holds its count
 just-is : (k : ℕ) (l : List ℕ) (p : ℕ) → fine 26 (just 8 k ∷ []) (decode (just 8 k ∷ []) l p) ≡ true → at l p 8 ≡ k
@@ -158,22 +135,3 @@ count-back (content.Drill action) body l q m h e = refl
 count-back (content.Text kind set t) body l q m h e = just-is t l (q + size (rowOf Text .before)) h
 count-back (content.Command k) body l q m h e = just-is k l (q + size []) h
 count-back (content.Hold serial) body l q m h e = refl
-
--- what is repeated: entries, bytes, or nothing
-pub data Repeated : Content → Type 0 where
-  entries : {c : Content} → hasEntries (formFor c) ≡ true → Repeated c
-  octet : {c : Content} → hasEntries (formFor c) ≡ false → rowFor c .each ≡ octets 1 ∷ [] → Repeated c
-  nothing : {c : Content} → hasEntries (formFor c) ≡ false → rowFor c .each ≡ [] → ((body : List ℕ) → countFor c body ≡ 0) → Repeated c
-
-pub repeated : (c : Content) → Repeated c
-repeated content.Raw = octet refl refl
-repeated (content.Frequencies k) = entries refl
-repeated (content.Address m) = octet refl refl
-repeated (content.Keep on period) = nothing refl refl (λ body. refl)
-repeated (content.Clock year month day hour minute second) = nothing refl refl (λ body. refl)
-repeated (content.Reset change) = nothing refl refl (λ body. refl)
-repeated content.Factory = nothing refl refl (λ body. refl)
-repeated (content.Drill action) = nothing refl refl (λ body. refl)
-repeated (content.Text kind set t) = octet refl refl
-repeated (content.Command k) = octet refl refl
-repeated (content.Hold serial) = nothing refl refl (λ body. refl)

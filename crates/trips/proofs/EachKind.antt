@@ -1,15 +1,20 @@
 -- Contents made of what was read, a clause for each kind: their kind, numbers, count and digits. Assumes nothing.
-use mathlib.Core.Path.{_≡_, refl, sym}
+use mathlib.Core.Path.{_≡_, refl, sym, _∙_}
 use mathlib.Core.Logic.{_⊎_, inl, inr}
 use mathlib.Core.List.{List, [], _∷_}
-use mathlib.Core.Bool.{true, false, true≢false}
+use mathlib.Core.Bool.{Bool, true, false, true≢false}
 use Prim.Native.Nat.{ℕ, _+_, _*_, _-_, _≤_}
 use native.Mathlib.Omega.{arith}
 use lib.ListN.{length, take, drop}
 use Rattle.laws.specs.Bits.{run}
-use Rattle.laws.specs.Scan.{all}
-use Rattle.laws.proofs.Cases.{and-left}
-use Rattle.format.specs.Format.{decode, need, flat, inside, fine, unmet}
+use Rattle.laws.proofs.Cases.{and-left, or-no}
+use lib.Dec.{eqb}
+use borrow.Author.Tests.{eqb-true}
+use Rattle.packet.specs.declared.Content.{Content}
+use Rattle.packet.specs.Writing.{digitsBefore, digitsAfter}
+use Rattle.packet.proofs.Good.{good}
+use Rattle.packet.proofs.Contents.{numbers-long}
+use Rattle.format.specs.Format.{decode, need, flat, inside, fine}
 use Rattle.packet.specs.declared.Form.{Form}
 use Rattle.packet.specs.declared.Form.the-variants.{Frequencies, Address, Keep, Clock, Reset, Factory, Drill, Text, Command, Hold, Raw, Unknown}
 use Rattle.packet.specs.Table.{rowOf, countIn}
@@ -76,37 +81,6 @@ count-for Hold xs body l q m k h e n = sym e
 count-for Raw xs body l q m k h e n = omega (arith, n)
 count-for Unknown xs body l q m k h e n = absurd (true≢false h)
 
-pub numbers-few : (f : Form) → numbersIn f ≤ need (rowOf f .before)
-unfolding need
-numbers-few Frequencies = omega arith
-numbers-few Address = omega arith
-numbers-few Keep = omega arith
-numbers-few Clock = omega arith
-numbers-few Reset = omega arith
-numbers-few Factory = omega arith
-numbers-few Drill = omega arith
-numbers-few Text = omega arith
-numbers-few Command = omega arith
-numbers-few Hold = omega arith
-numbers-few Raw = omega arith
-numbers-few Unknown = omega arith
-
--- no kind has digits both before its bytes and after them, and none more than 35
-pub places : (f : Form) → ((need (rowOf f .before) ≡ numbersIn f) ⊎ (need (rowOf f .after) ≡ 0)) × (need (rowOf f .before) - numbersIn f + need (rowOf f .after) ≤ 35)
-unfolding need
-places Frequencies = (inl refl, omega arith)
-places Address = (inl refl, omega arith)
-places Keep = (inl refl, omega arith)
-places Clock = (inl refl, omega arith)
-places Reset = (inr refl, omega arith)
-places Factory = (inl refl, omega arith)
-places Drill = (inr refl, omega arith)
-places Text = (inr refl, omega arith)
-places Command = (inl refl, omega arith)
-places Hold = (inl refl, omega arith)
-places Raw = (inl refl, omega arith)
-places Unknown = (inl refl, omega arith)
-
 -- digits without a fault of 25 are at most 9
 pub front-digits : (f : Form) (l : List ℕ) (q : ℕ) → fine 25 (rowOf f .before) (decode (rowOf f .before) l q) ≡ true → inside 0 9 (drop (numbersIn f) (flat (rowOf f .before) (decode (rowOf f .before) l q))) ≡ true
 unfolding fine decode flat run inside
@@ -138,18 +112,17 @@ back-digits Hold l q h = refl
 back-digits Raw l q h = refl
 back-digits Unknown l q h = refl
 
--- only the heading and the count are due 26
-pub unmet-26 : (f : Form) → (all (unmet 26) (rowOf f .before) ≡ true) × ((all (unmet 26) (rowOf f .each) ≡ true) × (all (unmet 26) (rowOf f .after) ≡ true))
-unfolding all
-unmet-26 Frequencies = (refl, (refl, refl))
-unmet-26 Address = (refl, (refl, refl))
-unmet-26 Keep = (refl, (refl, refl))
-unmet-26 Clock = (refl, (refl, refl))
-unmet-26 Reset = (refl, (refl, refl))
-unmet-26 Factory = (refl, (refl, refl))
-unmet-26 Drill = (refl, (refl, refl))
-unmet-26 Text = (refl, (refl, refl))
-unmet-26 Command = (refl, (refl, refl))
-unmet-26 Hold = (refl, (refl, refl))
-unmet-26 Raw = (refl, (refl, refl))
-unmet-26 Unknown = (refl, (refl, refl))
+-- no kind has digits both before its bytes and after them, and none more than 35
+pub places : (f : Form) → ((need (rowOf f .before) ≡ numbersIn f) ⊎ (need (rowOf f .after) ≡ 0)) × (need (rowOf f .before) - numbersIn f + need (rowOf f .after) ≤ 35)
+places f = (by (eqb (need (rowOf f .before)) (numbersIn f)) refl, good f .last)
+  where
+    by : (b : Bool) → eqb (need (rowOf f .before)) (numbersIn f) ≡ b → (need (rowOf f .before) ≡ numbersIn f) ⊎ (need (rowOf f .after) ≡ 0)
+    by true e = inl (eqb-true _ _ e)
+    by false e = inr (eqb-true _ _ (sym (or-no _ e) ∙ good f .one-place))
+
+pub one-place : (c : Content) → (digitsBefore c ≡ 0) ⊎ (digitsAfter c ≡ 0)
+one-place c = by (places (formFor c) .0)
+  where
+    by : (need (rowOf (formFor c) .before) ≡ numbersIn (formFor c)) ⊎ (need (rowOf (formFor c) .after) ≡ 0) → (digitsBefore c ≡ 0) ⊎ (digitsAfter c ≡ 0)
+    by (inl e) = inl (omega (arith, e, numbers-long c))
+    by (inr e) = inr e

@@ -19,20 +19,23 @@ use Rattle.format.specs.declared.Line.{Line}
 use Rattle.format.specs.Format.{just, size, times, decode, flat, need, fill, inside, fine}
 use Rattle.format.proofs.Tables.{size-append, size-times, need-append, fine-append, fine-join, fill-join, length-fill}
 use Rattle.packet.specs.declared.Form.{Form}
-use Rattle.packet.specs.declared.Form.the-variants.{Frequencies, Address, Keep, Clock, Reset, Factory, Drill, Text, Command, Hold, Raw, Unknown}
 use Rattle.packet.specs.Table.{Row, formOf, contentBytes, rowOf, countIn, contentLines, code, ending, packet}
 use Rattle.packet.specs.declared.Fields.{Fields}
 use Rattle.packet.specs.declared.Content.{Content}
-use Rattle.packet.specs.declared.Content.the-variants as content
 use Rattle.packet.specs.Content.{contentOf, numbersIn, countFor, noSuchDay}
-use Rattle.packet.specs.Reading.{kindIn, lengthIn, codesIn, formIn, contentAt, contentSize, countOf, partAt, tableOf, valuesIn, numbersAt, frontIn, bodyIn, backIn, contentIn, digitsIn, zeros, padded, codesOf, hasEntries, fieldsOf, sizeBad, lengthBad, isUnknown, fieldBad, readCases, readAnswer, openedBy, opened, partBy, bodyOf, textAnswer, textOf}
+use Rattle.packet.specs.Reading.{kindIn, lengthIn, codesIn, formIn, contentAt, contentSize, countOf, countSize, partAt, tableOf, valuesIn, numbersAt, frontIn, bodyIn, backIn, contentIn, digitsIn, zeros, padded, codesOf, hasEntries, fieldsOf, sizeBad, lengthBad, isUnknown, fieldBad, readCases, readAnswer, openedBy, opened, partBy, bodyOf, textAnswer, textOf}
 use Rattle.packet.specs.Writing.{rowFor, frontFor, backFor, bodyFor, sizeFor, tableFor, numbersFor, valuesFor, lentBad, countBad, digitBad, otherType, bodyLost, digitsLost, notTaken, writtenAnswer, writtenBy, written}
-use Rattle.packet.proofs.Sizes.{countSize, count-size, content-size, column}
+use Rattle.packet.proofs.Column.{count-size, content-size, column}
 use Rattle.packet.proofs.Accepted.{Accepted, accepted, right-size, body-inside, later, later-not, text-later, text-there}
 use Rattle.packet.proofs.Refused.{no-part}
 use Rattle.trips.proofs.Text.{is-body}
 use Rattle.trips.specs.Given.{Alike, signed, unsigned}
 use Rattle.trips.proofs.Parts.{size-code, need-code, content-need}
+use Rattle.packet.specs.declared.Sort.{Sort}
+use Rattle.packet.specs.declared.Sort.the-variants as sort
+use Rattle.packet.specs.Table.{countBy}
+use Rattle.packet.specs.Content.{partsOf, formFor}
+use Rattle.packet.proofs.Lent.{one-each, bodied-by}
 use Rattle.trips.proofs.Taken.{front-long, back-long}
 
 -- ---- lines that end before the bits u do are read from u alone
@@ -44,32 +47,16 @@ decode-left (t ∷ ts) u l p h =
 
 -- ---- a count is read from the content, or there is none
 counted : (f : Form) → (countSize (rowOf f .sort) ≡ 8) ⊎ ((l m : List ℕ) (q n : ℕ) → countIn (rowOf f) l q n ≡ countIn (rowOf f) m q n)
-counted Frequencies = inl refl
-counted Address = inl refl
-counted Keep = inr (λ l m q n. refl)
-counted Clock = inr (λ l m q n. refl)
-counted Reset = inr (λ l m q n. refl)
-counted Factory = inr (λ l m q n. refl)
-counted Drill = inr (λ l m q n. refl)
-counted Text = inl refl
-counted Command = inl refl
-counted Hold = inr (λ l m q n. refl)
-counted Raw = inr (λ l m q n. refl)
-counted Unknown = inr (λ l m q n. refl)
+counted f = by (rowOf f .sort) (λ l q. at l (q + size (rowOf f .before)) 8)
+  where
+    by : (s : Sort) (k : List ℕ → ℕ → ℕ) → (countSize s ≡ 8) ⊎ ((l m : List ℕ) (q n : ℕ) → countBy s (k l q) n ≡ countBy s (k m q) n)
+    by sort.Fixed k = inr (λ l m q n. refl)
+    by sort.Counted k = inl refl
+    by sort.Raw k = inr (λ l m q n. refl)
+    by sort.Unknown k = inr (λ l m q n. refl)
 
 same-count : (f : Form) (l m : List ℕ) (q n : ℕ) → at l (q + size (rowOf f .before)) 8 ≡ at m (q + size (rowOf f .before)) 8 → countIn (rowOf f) l q n ≡ countIn (rowOf f) m q n
-same-count Frequencies l m q n e = e
-same-count Address l m q n e = e
-same-count Keep l m q n e = refl
-same-count Clock l m q n e = refl
-same-count Reset l m q n e = refl
-same-count Factory l m q n e = refl
-same-count Drill l m q n e = refl
-same-count Text l m q n e = e
-same-count Command l m q n e = e
-same-count Hold l m q n e = refl
-same-count Raw l m q n e = refl
-same-count Unknown l m q n e = refl
+same-count f l m q n e = ap (λ (k : ℕ). countBy (rowOf f .sort) k n) e
 
 -- the content's lines are no fewer bits than what stands before its count, and the count
 at-least : (r : Row) (k : ℕ) → size (r .before) + countSize (r .sort) ≤ size (contentLines r k)
@@ -462,19 +449,9 @@ never-judged b c w = (go (readAnswer b) refl, body (readAnswer b) refl, text (re
 
 -- ---- the writer
 -- as many of what is lent as the content counts, where the count is right
-body-long : (c : Content) (body : List ℕ) → lentBad (rowFor c .sort) (countFor c body) (need (rowFor c .each)) body ≡ false → length (bodyFor c body) ≡ countFor c body * need (rowFor c .each)
-unfolding bodyFor need
-body-long content.Raw body a = length-take-le (length body * 1) body (omega arith)
-body-long (content.Frequencies k) body a = length-take-le (k * 8) body (omega (arith, eqb-true (length body) (k * 8) (and-both (leb k 255) (eqb (length body) (k * 8)) (not-false _ a) .1)))
-body-long (content.Address m) body a = length-take-le (m * 1) body (omega (arith, eqb-true (length body) (m * 1) (and-both (leb m 255) (eqb (length body) (m * 1)) (not-false _ a) .1)))
-body-long (content.Keep on period) body a = refl
-body-long (content.Clock year month day hour minute second) body a = refl
-body-long (content.Reset change) body a = refl
-body-long content.Factory body a = refl
-body-long (content.Drill action) body a = refl
-body-long (content.Text kind set t) body a = length-take-le (t * 1) body (omega (arith, eqb-true (length body) (t * 1) (and-both (leb t 255) (eqb (length body) (t * 1)) (not-false _ a) .1)))
-body-long (content.Command k) body a = length-take-le (k * 1) body (omega (arith, eqb-true (length body) (k * 1) (and-both (leb k 255) (eqb (length body) (k * 1)) (not-false _ a) .1)))
-body-long (content.Hold serial) body a = refl
+body-long : (c : Content) (body : List ℕ) → lentBad (rowFor c .sort) (countFor c body) (need (rowFor c .each)) (length body) ≡ false → length (bodyFor c body) ≡ countFor c body * need (rowFor c .each)
+unfolding bodyFor
+body-long c body a = bodied-by (partsOf c .count) (need (rowFor c .each)) body (rowFor c .sort) (one-each (formFor c)) a
 
 ending-values : (x : ℕ) (v y : List ℕ) → length v ≡ 12 → fill ending (x ∷ (v ++ y)) ≡ (x ∷ []) ∷ v ∷ take 64 y ∷ []
 unfolding fill
@@ -533,7 +510,7 @@ module _ (f : Fields) (codes body : List ℕ) (digits-long : length (f .digits) 
       let p = lines-alike y 25 refl in
       let q = lines-alike y 27 refl in
       ap₂ (λ (u v : Bool). first ((isUnknown (formOf (f .kind)), 23) ∷ (countBad f codes body, 26) ∷ (not u || not (inside 0 9 (f .digits)), 25)
-      ∷ (otherType f || (bodyLost (rowFor (f .content) .sort) body || (digitsLost (f .content) (f .digits) || ((eqb (f .kind) 1 && not (eqb (f .codes) 0)) || (not v || noSuchDay (f .content))))), 27)
+      ∷ (otherType f || (bodyLost (rowFor (f .content) .sort) (length body) || (digitsLost (f .content) (f .digits) || ((eqb (f .kind) 1 && not (eqb (f .codes) 0)) || (not v || noSuchDay (f .content))))), 27)
       ∷ (ltb 250 (sizeFor f body), 20) ∷ (ltb room (sizeFor f body), 10) ∷ [])) p q))
 
 -- Fields that differ only in time and signature have the same answer and length from the writer, whatever codes, body and room are lent.

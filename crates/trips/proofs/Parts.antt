@@ -16,7 +16,7 @@ use Rattle.packet.specs.declared.Sort.{Sort}
 use Rattle.packet.specs.declared.Sort.the-variants as sort
 use Rattle.packet.specs.Table.{Row, countLine, contentLines, code, ending, packet}
 use Rattle.packet.specs.Reading.{partAt}
-use Rattle.packet.proofs.Sizes.{count-size}
+use Rattle.packet.proofs.Column.{count-size}
 
 -- ---- sizes
 pub count-need : (s : Sort) (k : ℕ) → need (countLine s k) ≡ 0

@@ -23,12 +23,14 @@ use Rattle.packet.specs.Table.{formOf, contentBytes, rowOf, countIn, contentLin
 use Rattle.packet.specs.Content.{formFor, numbersOf, numbersIn, countFor, noSuchDay}
 use Rattle.packet.specs.Reading.{kindIn, lengthIn, codesIn, formIn, contentAt, contentSize, countOf, partAt, tableOf, valuesIn, numbersAt, frontIn, bodyIn, backIn, contentIn, digitsIn, padded, codesOf, hasEntries, fieldsOf, sizeBad, lengthBad, isUnknown, readAnswer, opened, bodyOf}
 use Rattle.packet.specs.Writing.{rowFor, digitsBefore, digitsAfter, frontFor, backFor, bodyFor, sizeFor, tableFor, numbersFor, valuesFor, bytesFor}
-use Rattle.packet.proofs.Sizes.{content-size, column}
+use Rattle.packet.proofs.Column.{content-size, column}
 use Rattle.trips.specs.Given.{asGiven}
 use Rattle.trips.proofs.Parts as parts
 use Rattle.trips.proofs.Octets.{octets-at, run-bytes}
 use Rattle.trips.proofs.Fitting as fitting
+use Rattle.packet.proofs.Contents as packet-contents
 use Rattle.trips.proofs.Contents as contents
+use Rattle.trips.proofs.EachKind.{one-place}
 use Rattle.trips.proofs.Padded.{padded-take}
 use Rattle.trips.proofs.Taken.{Taken, Fitted, type-small, lent-long, count-fits, front-long, back-long, whole-body, octet-size}
 
@@ -202,7 +204,7 @@ module _ (f : Fields) (codes body : List ℕ) (a : Taken f codes body) (y : Fitt
   unfolding frontFor
   content-is =
       let c = f .content in
-      rw (form-back, front-back, count-back) (contents.content-back c (take (digitsBefore c) (f .digits)) body)
+      rw (form-back, front-back, count-back) (packet-contents.content-back c (take (digitsBefore c) (f .digits)) body)
 
   digits-is : padded 35 (digitsIn (bytesFor f codes body)) ≡ f .digits
   unfolding frontFor backFor
@@ -211,7 +213,7 @@ module _ (f : Fields) (codes body : List ℕ) (a : Taken f codes body) (y : Fitt
       let ds = f .digits in
       let u = digitsBefore c in
       let v = digitsAfter c in
-      let e : digitsIn (bytesFor f codes body) ≡ take (u + v) ds = rw (form-back, front-back, back-back) (ap (λ (l : List ℕ). l ++ take v ds) (drop-at (numbersOf c) (take u ds) (numbersIn (formFor c)) (contents.numbers-long c)) ∙ one (contents.one-place c)) in
+      let e : digitsIn (bytesFor f codes body) ≡ take (u + v) ds = rw (form-back, front-back, back-back) (ap (λ (l : List ℕ). l ++ take v ds) (drop-at (numbersOf c) (take u ds) (numbersIn (formFor c)) (packet-contents.numbers-long c)) ∙ one (one-place c)) in
       ap (padded 35) e ∙ padded-take (u + v) ds (y .digits-long) (contents.few-digits c) (a .digits-kept)
     where
       one : (digitsBefore (f .content) ≡ 0) ⊎ (digitsAfter (f .content) ≡ 0) → take (digitsBefore (f .content)) (f .digits) ++ take (digitsAfter (f .content)) (f .digits) ≡ take (digitsBefore (f .content) + digitsAfter (f .content)) (f .digits)
@@ -299,12 +301,12 @@ module _ (f : Fields) (codes body : List ℕ) (a : Taken f codes body) (y : Fitt
 
   pub body-is : bodyOf (bytesFor f codes body) ≡ cond (hasEntries (formFor (f .content))) [] body
   unfolding bodyOf
-  body-is = rw (answer-is, form-back, codes-back, count-back) (by (contents.repeated (f .content)))
+  body-is = rw (answer-is, form-back, codes-back, count-back) (by (packet-contents.repeated (formFor (f .content))))
     where
-      by : contents.Repeated (f .content) → take (cond (hasEntries (formFor (f .content))) 0 (countFor (f .content) body)) (drop (3 + 12 * f .codes + partAt (rowFor (f .content)) / 8) (bytesFor f codes body)) ≡ cond (hasEntries (formFor (f .content))) [] body
-      by (contents.entries e) = rw e
-      by (contents.nothing e h z) = rw (e, z body) (sym (fitting.nil-of body (body-long ∙ ap (λ (x : ℕ). x * need (rowFor (f .content) .each)) (z body) ∙ zero-mul (need (rowFor (f .content) .each)))))
-      by (contents.octet e h) =
+      by : packet-contents.Repeated (formFor (f .content)) → take (cond (hasEntries (formFor (f .content))) 0 (countFor (f .content) body)) (drop (3 + 12 * f .codes + partAt (rowFor (f .content)) / 8) (bytesFor f codes body)) ≡ cond (hasEntries (formFor (f .content))) [] body
+      by (packet-contents.entries e q) = rw e
+      by (packet-contents.nothing e h z) = rw (e, z _ (length body)) (sym (fitting.nil-of body (body-long ∙ ap (λ (x : ℕ). x * need (rowFor (f .content) .each)) (z _ (length body)) ∙ zero-mul (need (rowFor (f .content) .each)))))
+      by (packet-contents.octet e h) =
           let c = f .content in
           let b = bytesFor f codes body in
           let k = countFor c body in

@@ -13,7 +13,6 @@ use Rattle.laws.proofs.Cases.{and-both, or-both}
 use Rattle.format.specs.Format.{just, octets, size, need, inside, fine, unmet}
 use Rattle.packet.specs.declared.Form.the-variants.{Unknown}
 use Rattle.packet.specs.declared.Content.{Content}
-use Rattle.packet.specs.declared.Content.the-variants as content
 use Rattle.packet.specs.declared.Fields.{Fields}
 use Rattle.packet.specs.Table.{formOf, countLine, code}
 use Rattle.packet.specs.Content.{formFor, numbersOf, countFor, noSuchDay}
@@ -23,16 +22,23 @@ use Rattle.packet.proofs.Forms as forms
 use Rattle.trips.proofs.Fitting as fitting
 use Rattle.trips.proofs.Contents as contents
 use Rattle.laws.proofs.Refusals.{not-due}
+use Rattle.packet.specs.declared.Sort.{Sort}
+use Rattle.packet.specs.declared.Sort.the-variants as sort
+use Rattle.packet.specs.Table.{countBy}
+use Rattle.packet.specs.Content.{partsOf}
+use Rattle.packet.proofs.Good.{good}
+use Rattle.packet.proofs.Lent.{one-each, lent-enough, lent-by}
+use Rattle.packet.proofs.Contents.{numbers-long, content-known}
 
 -- ---- what a writer's 0 says
 pub record Taken (f : Fields) (codes body : List ℕ) : Type 0 where
   pub known : isUnknown (formOf (f .kind)) ≡ false
   pub few : f .codes ≤ 255
   pub codes-long : length codes ≡ f .codes * 23
-  pub lent : lentBad (rowFor (f .content) .sort) (countFor (f .content) body) (need (rowFor (f .content) .each)) body ≡ false
+  pub lent : lentBad (rowFor (f .content) .sort) (countFor (f .content) body) (need (rowFor (f .content) .each)) (length body) ≡ false
   pub c25 : fine 25 (tableFor f body) (valuesFor f codes body) ≡ true
   pub form : formOf (f .kind) ≡ formFor (f .content)
-  pub body-kept : bodyLost (rowFor (f .content) .sort) body ≡ false
+  pub body-kept : bodyLost (rowFor (f .content) .sort) (length body) ≡ false
   pub digits-kept : inside 0 0 (drop (digitsBefore (f .content) + digitsAfter (f .content)) (f .digits)) ≡ true
   pub c27 : fine 27 (tableFor f body) (valuesFor f codes body) ≡ true
   pub day : noSuchDay (f .content) ≡ false
@@ -50,7 +56,7 @@ taken f codes body room e =
     let b2 = and-both (leb (f .codes) 255) (eqb (length codes) (f .codes * 23)) (not-false _ (b1 .0)) in
     let d1 = or-both (not (fine 25 (tableFor f body) (valuesFor f codes body))) _ (d .0) in
     let g1 = or-both (otherType f) _ (g .0) in
-    let g2 = or-both (bodyLost (rowFor (f .content) .sort) body) _ (g1 .1) in
+    let g2 = or-both (bodyLost (rowFor (f .content) .sort) (length body)) _ (g1 .1) in
     let g3 = or-both (digitsLost (f .content) (f .digits)) _ (g2 .1) in
     let g4 = or-both (eqb (f .kind) 1 && not (eqb (f .codes) 0)) _ (g3 .1) in
     let g5 = or-both (not (fine 27 (tableFor f body) (valuesFor f codes body))) (noSuchDay (f .content)) (g4 .1) in
@@ -88,46 +94,34 @@ type-small t e = go (ltb t 25) refl
         absurd (true≢false (sym (ap isUnknown (sym z)) ∙ e))
 
 -- what is lent is what the content counts
-pub lent-long : (c : Content) (body : List ℕ) → lentBad (rowFor c .sort) (countFor c body) (need (rowFor c .each)) body ≡ false → bodyLost (rowFor c .sort) body ≡ false → length body ≡ countFor c body * need (rowFor c .each)
-unfolding need
-lent-long content.Raw body a b = omega arith
-lent-long (content.Frequencies k) body a b = eqb-true (length body) (k * 8) (and-both (leb k 255) (eqb (length body) (k * 8)) (not-false _ a) .1)
-lent-long (content.Address m) body a b = eqb-true (length body) (m * 1) (and-both (leb m 255) (eqb (length body) (m * 1)) (not-false _ a) .1)
-lent-long (content.Keep on period) body a b = eqb-true (length body) 0 (not-false _ b)
-lent-long (content.Clock year month day hour minute second) body a b = eqb-true (length body) 0 (not-false _ b)
-lent-long (content.Reset change) body a b = eqb-true (length body) 0 (not-false _ b)
-lent-long content.Factory body a b = eqb-true (length body) 0 (not-false _ b)
-lent-long (content.Drill action) body a b = eqb-true (length body) 0 (not-false _ b)
-lent-long (content.Text kind set t) body a b = eqb-true (length body) (t * 1) (and-both (leb t 255) (eqb (length body) (t * 1)) (not-false _ a) .1)
-lent-long (content.Command k) body a b = eqb-true (length body) (k * 1) (and-both (leb k 255) (eqb (length body) (k * 1)) (not-false _ a) .1)
-lent-long (content.Hold serial) body a b = eqb-true (length body) 0 (not-false _ b)
+pub lent-long : (c : Content) (body : List ℕ) → lentBad (rowFor c .sort) (countFor c body) (need (rowFor c .each)) (length body) ≡ false → bodyLost (rowFor c .sort) (length body) ≡ false → length body ≡ countFor c body * need (rowFor c .each)
+lent-long c body a b = lent-by (partsOf c .count) (need (rowFor c .each)) body (rowFor c .sort) (one-each (formFor c)) (content-known c) b a
 
 -- a number of the table has its bits
 tight-8 : (k : ℕ) → k ≤ 255 → all fitting.tight (just 8 k ∷ []) ≡ true
 unfolding all
 tight-8 k h = rw (lt-ltb k 256 (omega arith))
 
--- a count has eight bits where there is one
-pub count-fits : (c : Content) (body : List ℕ) → lentBad (rowFor c .sort) (countFor c body) (need (rowFor c .each)) body ≡ false → all fitting.tight (countLine (rowFor c .sort) (countFor c body)) ≡ true
+tight-none : all fitting.tight [] ≡ true
 unfolding all
-count-fits content.Raw body a = refl
-count-fits (content.Frequencies k) body a = tight-8 k (leb-true k 255 (and-both (leb k 255) _ (not-false _ a) .0))
-count-fits (content.Address m) body a = tight-8 m (leb-true m 255 (and-both (leb m 255) _ (not-false _ a) .0))
-count-fits (content.Keep on period) body a = refl
-count-fits (content.Clock year month day hour minute second) body a = refl
-count-fits (content.Reset change) body a = refl
-count-fits content.Factory body a = refl
-count-fits (content.Drill action) body a = refl
-count-fits (content.Text kind set t) body a = tight-8 t (leb-true t 255 (and-both (leb t 255) _ (not-false _ a) .0))
-count-fits (content.Command k) body a = tight-8 k (leb-true k 255 (and-both (leb k 255) _ (not-false _ a) .0))
-count-fits (content.Hold serial) body a = refl
+tight-none = refl
+
+-- a count has eight bits where there is one
+pub count-fits : (c : Content) (body : List ℕ) → lentBad (rowFor c .sort) (countFor c body) (need (rowFor c .each)) (length body) ≡ false → all fitting.tight (countLine (rowFor c .sort) (countFor c body)) ≡ true
+count-fits c body = by (rowFor c .sort) (partsOf c .count) (need (rowFor c .each))
+  where
+    by : (s : Sort) (k w : ℕ) → lentBad s (countBy s k (length body)) w (length body) ≡ false → all fitting.tight (countLine s (countBy s k (length body))) ≡ true
+    by sort.Fixed k w a = tight-none
+    by sort.Counted k w a = tight-8 k (lent-enough k w body a .0)
+    by sort.Raw k w a = tight-none
+    by sort.Unknown k w a = tight-none
 
 -- ---- the numbers are as many as the table needs
 pub front-long : (c : Content) (ds : List ℕ) → length ds ≡ 35 → length (frontFor c ds) ≡ need (rowFor c .before)
 unfolding frontFor
 front-long c ds n =
     length-append (numbersOf c) (take (digitsBefore c) ds)
-    ∙ omega (arith, length-take-le (digitsBefore c) ds (omega (arith, contents.few-digits c)), contents.numbers-long c, contents.numbers-need c)
+    ∙ omega (arith, length-take-le (digitsBefore c) ds (omega (arith, contents.few-digits c)), numbers-long c, good (formFor c) .numbered)
 
 pub back-long : (c : Content) (ds : List ℕ) → length ds ≡ 35 → length (backFor c ds) ≡ need (rowFor c .after)
 unfolding backFor

@@ -1,7 +1,7 @@
 -- Fields and a body of their types, where they are taken, fit the bits of their table. Assumes nothing.
 use mathlib.Core.Path.{_≡_, refl, sym, ap, _∙_}
 use mathlib.Core.List.{List, [], _∷_, _++_, append-assoc}
-use mathlib.Core.Bool.{Bool, true, false, not, _&&_, _||_, cond}
+use mathlib.Core.Bool.{Bool, true, false, _&&_, cond}
 use Prim.Native.Nat.{ℕ, suc, _*_, _<_}
 use native.Mathlib.Omega.{arith}
 use lib.ListN.{length, take, drop, replicate, length-append}
@@ -21,13 +21,12 @@ use Rattle.packet.specs.declared.Fields.{Fields}
 use Rattle.packet.specs.Table.{contentLines, code, ending, packet}
 use Rattle.packet.specs.Content.{countFor}
 use Rattle.packet.specs.Writing.{rowFor, frontFor, backFor, bodyFor, sizeFor, tableFor, numbersFor, valuesFor}
+use Rattle.trips.proofs.Contents as contents
+use Rattle.trips.proofs.Contents.{byteLine}
+use Rattle.packet.specs.Content.{formFor}
 use Rattle.trips.specs.Given.{held, Typed}
 use Rattle.trips.proofs.Parts as parts
 use Rattle.trips.proofs.Taken.{Taken, Fitted, lent-long, front-long, back-long, whole-body, code-unmet}
-
--- untested lines of bytes
-abbrev byteLine : Line → Bool
-byteLine t = not (eqb (t .other) 0) || (eqb (t .lo) 0 && (eqb (t .hi) 255 && t .free))
 
 bytes-inside : (v : List ℕ) → Under 256 v → inside 0 255 v ≡ true
 unfolding inside
@@ -64,34 +63,6 @@ front-held (content.Text kind set t) ds h = refl
 front-held (content.Command k) ds h = refl
 front-held (content.Hold serial) ds h = rw (le-leb 0 serial (omega arith), h)
 
-rows-byte : (c : Content) → all byteLine (rowFor c .each) ≡ true
-unfolding all
-rows-byte content.Raw = refl
-rows-byte (content.Frequencies k) = refl
-rows-byte (content.Address m) = refl
-rows-byte (content.Keep on period) = refl
-rows-byte (content.Clock year month day hour minute second) = refl
-rows-byte (content.Reset change) = refl
-rows-byte content.Factory = refl
-rows-byte (content.Drill action) = refl
-rows-byte (content.Text kind set t) = refl
-rows-byte (content.Command k) = refl
-rows-byte (content.Hold serial) = refl
-
-after-unmet : (c : Content) → all (unmet 0) (rowFor c .after) ≡ true
-unfolding all
-after-unmet content.Raw = refl
-after-unmet (content.Frequencies k) = refl
-after-unmet (content.Address m) = refl
-after-unmet (content.Keep on period) = refl
-after-unmet (content.Clock year month day hour minute second) = refl
-after-unmet (content.Reset change) = refl
-after-unmet content.Factory = refl
-after-unmet (content.Drill action) = refl
-after-unmet (content.Text kind set t) = refl
-after-unmet (content.Command k) = refl
-after-unmet (content.Hold serial) = refl
-
 ending-held : (x : ℕ) (y s : List ℕ) → x < 4294967296 → length y ≡ 12 → length s ≡ 64 → Under 256 s → fine 0 ending (fill ending (x ∷ (y ++ s))) ≡ true
 unfolding fine fill inside
 ending-held x y s hx hy hs u =
@@ -114,8 +85,8 @@ bits-held f codes body a y =
     let re : F ++ (b ++ (K ++ z)) ≡ (F ++ (b ++ K)) ++ z = sym (append-assoc F (b ++ K) z ∙ ap (λ (l : List ℕ). F ++ l) (append-assoc b K z)) in
     let v = ap (λ (l : List ℕ). fill (packet r (f .kind) (sizeFor f body) (f .codes) k) (codes ++ l)) re ∙ parts.packet-fill r (f .kind) (sizeFor f body) (f .codes) k codes (F ++ (b ++ K)) z (a .codes-long) yl in
     let ub : Under 256 b = rw (whole a) (y .body-held) in
-    let rows = fine-bytes (times k (r .each)) b (all-times byteLine k (r .each) (rows-byte c)) ub in
-    let cont = parts.content-fine 0 r k F b K fl bl (front-held c (f .digits) (y .content-held)) (parts.all-count (unmet 0) (r .sort) k refl) rows (unmet-fine 0 (r .after) (fill (r .after) K) (after-unmet c)) in
+    let rows = fine-bytes (times k (r .each)) b (all-times byteLine k (r .each) (contents.fair (formFor c) .bytes)) ub in
+    let cont = parts.content-fine 0 r k F b K fl bl (front-held c (f .digits) (y .content-held)) (parts.all-count (unmet 0) (r .sort) k refl) rows (unmet-fine 0 (r .after) (fill (r .after) K) (contents.fair (formFor c) .after)) in
     ap (fine 0 (packet r (f .kind) (sizeFor f body) (f .codes) k)) v
     ∙ parts.packet-fine 0 r (f .kind) (sizeFor f body) (f .codes) k codes (F ++ (b ++ K)) z refl (unmet-fine 0 (times (f .codes) code) (fill (times (f .codes) code) codes) (all-times (unmet 0) (f .codes) code code-unmet)) cont (ending-held (f .time) (f .certificate) (f .signature) (y .time-held) (y .certificate-long) (y .signature-long) (y .signature-held))
   where

@@ -5,26 +5,27 @@ use mathlib.Core.List.{List}
 use Prim.Native.Nat.{ℕ, _<_, _≤_}
 use lib.ListN.{drop}
 use lib.Dec.{ltb}
-use borrow.Author.Tests.{eq-eqb, ne-eqb, lt-ltb, le-ltb}
+use borrow.Author.Tests.{lt-ltb, le-ltb}
 use Rattle.laws.specs.Refusals.{first}
 use Rattle.laws.proofs.Refusals.{stop, pass, none-left}
 use Rattle.packet.specs.declared.Fields.{Fields}
-use Rattle.packet.specs.Table.{formOf, typeOf}
+use Rattle.packet.specs.Table.{formOf}
+use Rattle.packet.specs.Reading.{isUnknown}
 use Rattle.packet.specs.Writing.{sizeFor, countBad, digitBad, notTaken, writeCases, writtenAnswer}
 
 module _ (f : Fields) (codes body : List ℕ) (room : ℕ) where
-  pub says-23 : typeOf (formOf (f .kind)) ≡ 31 → 23 ≡ writtenAnswer f codes body room
+  pub says-23 : isUnknown (formOf (f .kind)) ≡ true → 23 ≡ writtenAnswer f codes body room
   unfolding writtenAnswer
-  says-23 e = sym (stop _ _ (eq-eqb _ _ e))
+  says-23 e = sym (stop _ _ e)
 
-  module _ (u : typeOf (formOf (f .kind)) ≡ 31 → ⊥) where
+  module _ (u : isUnknown (formOf (f .kind)) ≡ false) where
     pub says-26 : countBad f codes body ≡ true → 26 ≡ writtenAnswer f codes body room
     unfolding writtenAnswer
-    says-26 e = sym (pass _ _ (ne-eqb _ _ u) ∙ stop _ _ e)
+    says-26 e = sym (pass _ _ u ∙ stop _ _ e)
 
     pub then-rest : countBad f codes body ≡ false → (a : ℕ) → a ≡ first (drop 2 (writeCases f codes body room)) → a ≡ writtenAnswer f codes body room
     unfolding writtenAnswer
-    then-rest c a e = e ∙ sym (pass _ _ (ne-eqb _ _ u) ∙ pass _ _ c)
+    then-rest c a e = e ∙ sym (pass _ _ u ∙ pass _ _ c)
 
   pub says-25 : digitBad f codes body ≡ true → 25 ≡ first (drop 2 (writeCases f codes body room))
   says-25 e = sym (stop _ _ e)

@@ -1,6 +1,6 @@
 -- What the rows of the table of contents are, as far as the writer asks, and their parts put into bits. Assumes nothing.
 use mathlib.Core.Path.{_≡_, refl, sym, ap, _∙_}
-use mathlib.Core.Bool.{true}
+use mathlib.Core.Bool.{false, true≢false}
 use mathlib.Core.List.{List, [], _∷_, _++_, append-nil}
 use Prim.Native.Nat.{ℕ, zero, suc, _+_, _*_, _≤_}
 use native.Mathlib.Nat.{zero-mul}
@@ -8,58 +8,23 @@ use native.Mathlib.Omega.{arith}
 use lib.ListN.{length, take, length-append}
 use lib.Seq.{length-take-le, take-take, take-all, take-append-add}
 use Rattle.laws.specs.Bits.{bitsOf, spread}
-use Rattle.laws.specs.Scan.{all}
-use Rattle.format.specs.Format.{octets, size, need, encode, fill, times, sound}
-use Rattle.packet.specs.declared.Form.{Form}
-use Rattle.packet.specs.declared.Form.the-variants.{Frequencies, Address, Keep, Clock, Reset, Factory, Drill, Text, Command, Hold, Raw, Unknown}
+use Rattle.format.specs.Format.{octets, size, need, encode, fill, times}
 use Rattle.packet.specs.declared.Content.{Content}
-use Rattle.packet.specs.declared.Content.the-variants as content
-use Rattle.packet.specs.Table.{Row, rowOf, typeOf}
-use Rattle.packet.specs.Content.{formFor, numbersOf, countFor}
+use Rattle.packet.specs.Content.{partsOf, formFor, numbersOf, countFor}
+use Rattle.packet.specs.Reading.{hasEntries}
+use Rattle.packet.proofs.Good.{good}
+use Rattle.packet.proofs.Contents.{numbers-long, Repeated, entries, octet, nothing, repeated}
 use Rattle.packet.specs.Writing.{rowFor, digitsBefore, frontFor, backFor, bodyFor}
-use Rattle.writer.specs.Puts.{After, Fronted, countOf}
+use Rattle.writer.specs.Puts.{After, Fronted}
 use Rattle.writer.specs.Parts.{bodyBits, bodySize, Lent}
 use Rattle.writer.proofs.Rows.{same-fill}
 
--- ---- each row, by computation
-pub record Small (r : Row) : Type 0 where
-  pub before-sound : all sound (r .before) ≡ true
-  pub each-sound : all sound (r .each) ≡ true
-  pub after-sound : all sound (r .after) ≡ true
-  pub before-size : size (r .before) ≤ 152
-  pub each-size : size (r .each) ≤ 40
-  pub after-size : size (r .after) ≤ 96
-  pub after-need : need (r .after) ≤ 35
-
-pub small : (f : Form) → Small (rowOf f)
-unfolding all size need
-small Frequencies = record { before-sound = refl; each-sound = refl; after-sound = refl; before-size = omega arith; each-size = omega arith; after-size = omega arith; after-need = omega arith }
-small Address = record { before-sound = refl; each-sound = refl; after-sound = refl; before-size = omega arith; each-size = omega arith; after-size = omega arith; after-need = omega arith }
-small Keep = record { before-sound = refl; each-sound = refl; after-sound = refl; before-size = omega arith; each-size = omega arith; after-size = omega arith; after-need = omega arith }
-small Clock = record { before-sound = refl; each-sound = refl; after-sound = refl; before-size = omega arith; each-size = omega arith; after-size = omega arith; after-need = omega arith }
-small Reset = record { before-sound = refl; each-sound = refl; after-sound = refl; before-size = omega arith; each-size = omega arith; after-size = omega arith; after-need = omega arith }
-small Factory = record { before-sound = refl; each-sound = refl; after-sound = refl; before-size = omega arith; each-size = omega arith; after-size = omega arith; after-need = omega arith }
-small Drill = record { before-sound = refl; each-sound = refl; after-sound = refl; before-size = omega arith; each-size = omega arith; after-size = omega arith; after-need = omega arith }
-small Text = record { before-sound = refl; each-sound = refl; after-sound = refl; before-size = omega arith; each-size = omega arith; after-size = omega arith; after-need = omega arith }
-small Command = record { before-sound = refl; each-sound = refl; after-sound = refl; before-size = omega arith; each-size = omega arith; after-size = omega arith; after-need = omega arith }
-small Hold = record { before-sound = refl; each-sound = refl; after-sound = refl; before-size = omega arith; each-size = omega arith; after-size = omega arith; after-need = omega arith }
-small Raw = record { before-sound = refl; each-sound = refl; after-sound = refl; before-size = omega arith; each-size = omega arith; after-size = omega arith; after-need = omega arith }
-small Unknown = record { before-sound = refl; each-sound = refl; after-sound = refl; before-size = omega arith; each-size = omega arith; after-size = omega arith; after-need = omega arith }
-
 -- a content has numbers for its first lines, and the digits make up the rest
 pub numbers-fit : (c : Content) → (length (numbersOf c) ≤ need (rowFor c .before)) × (need (rowFor c .before) ≤ length (numbersOf c) + 35) × (length (numbersOf c) ≤ 6)
-unfolding need
-numbers-fit content.Raw = (omega arith, omega arith, omega arith)
-numbers-fit (content.Frequencies k) = (omega arith, omega arith, omega arith)
-numbers-fit (content.Address m) = (omega arith, omega arith, omega arith)
-numbers-fit (content.Keep on period) = (omega arith, omega arith, omega arith)
-numbers-fit (content.Clock year month day hour minute second) = (omega arith, omega arith, omega arith)
-numbers-fit (content.Reset change) = (omega arith, omega arith, omega arith)
-numbers-fit content.Factory = (omega arith, omega arith, omega arith)
-numbers-fit (content.Drill action) = (omega arith, omega arith, omega arith)
-numbers-fit (content.Text kind set t) = (omega arith, omega arith, omega arith)
-numbers-fit (content.Command k) = (omega arith, omega arith, omega arith)
-numbers-fit (content.Hold serial) = (omega arith, omega arith, omega arith)
+numbers-fit c =
+    let g = good (formFor c) in
+    let e = numbers-long c in
+    (omega (arith, e, g .numbered), omega (arith, e, g .digits), omega (arith, e, g .few))
 
 -- ---- the first lines
 take-front : (xs ds : List ℕ) (n m : ℕ) → n ≡ length xs + m → take n (xs ++ ds) ≡ take n (xs ++ take m ds)
@@ -77,7 +42,7 @@ module _ (c : Content) (ds : List ℕ) (d : length ds ≡ 35) where
 
   pub length-back : length (backFor c ds) ≡ need (rowFor c .after)
   unfolding backFor
-  length-back = length-take-le (need (rowFor c .after)) ds (omega (arith, small (formFor c) .after-need))
+  length-back = length-take-le (need (rowFor c .after)) ds (omega (arith, good (formFor c) .last))
 
   -- the array that the code has begins with them
   pub front-fill : (r : List ℕ) → Fronted c ds r → fill (rowFor c .before) r ≡ fill (rowFor c .before) (frontFor c ds)
@@ -96,7 +61,7 @@ module _ (c : Content) (ds : List ℕ) (d : length ds ≡ 35) where
   unfolding backFor
   back-fill r e l =
       let n = need (rowFor c .after) in
-      let h = small (formFor c) .after-need in
+      let h : n ≤ 35 = omega (arith, good (formFor c) .last) in
       same-fill (rowFor c .after) r (take n ds) (omega arith) (omega (arith, length-take-le n ds (omega arith)))
       (sym (take-take n 35 r h) ∙ ap (take n) (e ∙ take-all 35 ds (omega arith)) ∙ sym (take-take n n ds (omega arith)))
 
@@ -126,51 +91,22 @@ empty c body h e =
     no-elements [] h = refl
     no-elements (x ∷ l) h = absurd (omega arith)
 
--- contents that have bytes, or nothing
-pub octets-body : (c : Content) (body : List ℕ) → Lent c body → (typeOf (formFor c) ≡ 0 → ⊥) → (spread 8 body ≡ bodyBits c body) × (8 * length body ≡ bodySize c body) × (length body ≤ 255)
+-- contents that have bytes
+bytes-put : (c : Content) (body : List ℕ) → Lent c body → rowFor c .each ≡ octets 1 ∷ [] → (spread 8 body ≡ bodyBits c body) × (8 * length body ≡ bodySize c body) × (length body ≤ 255)
 unfolding bodyBits bodySize size need
-octets-body content.Raw body h n = (rw (body-whole content.Raw body h) (octet-rows (length body) body refl), omega arith, h .few)
-octets-body (content.Frequencies k) body h n = absurd (n refl)
-octets-body (content.Address m) body h n = let l = h .numbers in let f = h .few in (rw (body-whole (content.Address m) body h) (octet-rows m body (omega arith)), omega arith, omega arith)
-octets-body (content.Keep on period) body h n = empty (content.Keep on period) body h refl
-octets-body (content.Clock year month day hour minute second) body h n = empty (content.Clock year month day hour minute second) body h refl
-octets-body (content.Reset change) body h n = empty (content.Reset change) body h refl
-octets-body content.Factory body h n = empty content.Factory body h refl
-octets-body (content.Drill action) body h n = empty (content.Drill action) body h refl
-octets-body (content.Text kind set t) body h n = let l = h .numbers in let f = h .few in (rw (body-whole (content.Text kind set t) body h) (octet-rows t body (omega arith)), omega arith, omega arith)
-octets-body (content.Command k) body h n = let l = h .numbers in let f = h .few in (rw (body-whole (content.Command k) body h) (octet-rows k body (omega arith)), omega arith, omega arith)
-octets-body (content.Hold serial) body h n = empty (content.Hold serial) body h refl
+bytes-put c body h r =
+    let l : length body ≡ countFor c body = h .numbers ∙ rw r (omega arith) in
+    let f = h .few in
+    (rw (body-whole c body h, r) (octet-rows (countFor c body) body l), rw r (omega arith), omega arith)
 
--- ---- entries
-pub entries : (c : Content) → typeOf (formFor c) ≡ 0 → formFor c ≡ Frequencies
-entries content.Raw e = absurd (omega arith)
-entries (content.Frequencies k) e = refl
-entries (content.Address m) e = absurd (omega arith)
-entries (content.Keep on period) e = absurd (omega arith)
-entries (content.Clock year month day hour minute second) e = absurd (omega arith)
-entries (content.Reset change) e = absurd (omega arith)
-entries content.Factory e = absurd (omega arith)
-entries (content.Drill action) e = absurd (omega arith)
-entries (content.Text kind set t) e = absurd (omega arith)
-entries (content.Command k) e = absurd (omega arith)
-entries (content.Hold serial) e = absurd (omega arith)
-
-pub entry-need : (c : Content) → typeOf (formFor c) ≡ 0 → need (rowFor c .each) ≡ 8
-unfolding need
-entry-need c e = ap (λ (f : Form). need (rowOf f .each)) (entries c e)
-
-pub count-same : (c : Content) (body : List ℕ) → countOf c (length body) ≡ countFor c body
-count-same content.Raw body = refl
-count-same (content.Frequencies k) body = refl
-count-same (content.Address m) body = refl
-count-same (content.Keep on period) body = refl
-count-same (content.Clock year month day hour minute second) body = refl
-count-same (content.Reset change) body = refl
-count-same content.Factory body = refl
-count-same (content.Drill action) body = refl
-count-same (content.Text kind set t) body = refl
-count-same (content.Command k) body = refl
-count-same (content.Hold serial) body = refl
+-- or nothing too
+pub octets-body : (c : Content) (body : List ℕ) → Lent c body → hasEntries (formFor c) ≡ false → (spread 8 body ≡ bodyBits c body) × (8 * length body ≡ bodySize c body) × (length body ≤ 255)
+octets-body c body h n = by (repeated (formFor c))
+  where
+    by : Repeated (formFor c) → (spread 8 body ≡ bodyBits c body) × (8 * length body ≡ bodySize c body) × (length body ≤ 255)
+    by (entries e s) = absurd (true≢false (sym e ∙ n))
+    by (octet e r) = bytes-put c body h r
+    by (nothing e r z) = empty c body h (z (partsOf c .count) (length body))
 
 pub entries-body : (c : Content) (out last body : List ℕ) (k p r : ℕ) → Lent c body → k ≡ countFor c body
     → After out last p (encode (times k (rowFor c .each)) (fill (times k (rowFor c .each)) body)) r (k * size (rowFor c .each)) → After out last p (bodyBits c body) r (bodySize c body)

@@ -1,6 +1,6 @@
 -- Answers 25 and 27 by the tests of the code. Assumes nothing.
 use mathlib.Core.Path.{_≡_, refl, sym, ap, _∙_}
-use mathlib.Core.Bool.{Bool, true, false, not, _&&_, _||_, Bool·not-not}
+use mathlib.Core.Bool.{Bool, true, false, not, _&&_, _||_, and-true, Bool·not-not}
 use mathlib.Core.List.{List, _∷_, _++_}
 use Prim.Native.Nat.{ℕ, _+_, _-_}
 use native.Mathlib.Omega.{arith}
@@ -11,38 +11,27 @@ use Rattle.format.specs.Format.{fill, times, inside, fine}
 use Rattle.packet.specs.declared.Content.{Content}
 use Rattle.packet.specs.declared.Fields.{Fields}
 use Rattle.packet.specs.Table.{code, ending}
-use Rattle.packet.specs.Content.{countFor}
-use Rattle.packet.specs.Writing.{rowFor, backFor, bodyFor, tableFor, valuesFor, digitsBefore, digitsAfter, digitsLost, digitBad}
-use Rattle.writer.specs.Parts.{Counts}
-use Rattle.writer.specs.Ranges.{rangeFine}
+use Rattle.packet.specs.Writing.{tableFor, valuesFor, digitsBefore, digitsAfter, digitsLost, digitBad}
+use Rattle.writer.specs.Parts.{Counts, frontFine, rowsFine, backFine}
 use Rattle.writer.proofs.Fine.{digit, range, packet-fine}
-use Rattle.writer.proofs.Rules.{codes-digits, codes-range, front-digits, front-range, back-digits, back-range, ending-digits, ending-range}
+use Rattle.writer.proofs.Rules.{codes-digits, codes-range, ending-digits, ending-range}
 
 module _ (f : Fields) (codes body : List ℕ) (h : Counts f codes body) (d : length (f .digits) ≡ 35) (lc : length (f .certificate) ≡ 12) (ls : length (f .signature) ≡ 64) where
-  abbrev rows : ℕ → Bool
-  rows a = fine a (times (countFor (f .content) body) (rowFor (f .content) .each)) (fill (times (countFor (f .content) body) (rowFor (f .content) .each)) (bodyFor (f .content) body))
+  abbrev contents : ℕ → Bool
+  contents a = frontFine a (f .content) (f .digits) && (rowsFine a (f .content) body && backFine a (f .content) (f .digits))
 
-  -- where the digits beside the content are digits, what is left is codes, entries and certificate
-  pub fine-25 : inside 0 9 (f .digits) ≡ true → fine 25 (tableFor f body) (valuesFor f codes body) ≡ (inside 0 9 codes && (rows 25 && inside 0 9 (f .certificate)))
-  fine-25 e =
+  -- what is left is codes, content and certificate
+  pub fine-25 : fine 25 (tableFor f body) (valuesFor f codes body) ≡ (inside 0 9 codes && (contents 25 && inside 0 9 (f .certificate)))
+  fine-25 =
       packet-fine f codes body h d lc ls digit
-      ∙ rw (codes-digits (f .codes) codes (h .coded), front-digits (f .content) (f .digits) e, back-digits (f .content) (f .digits) e, ending-digits (f .time) (f .certificate) (f .signature) lc)
-      (ap (λ (b : Bool). inside 0 9 codes && b) (middle (rows 25) (inside 0 9 (f .certificate))))
-    where
-      middle : (x y : Bool) → ((true && (x && true)) && y) ≡ (x && y)
-      middle true y = refl
-      middle false y = refl
+      ∙ rw (codes-digits (f .codes) codes (h .coded), ending-digits (f .time) (f .certificate) (f .signature) lc)
 
-  pub fine-27 : fine 27 (tableFor f body) (valuesFor f codes body) ≡ (rangeFine (f .content) && rows 27)
+  -- and the content alone
+  pub fine-27 : fine 27 (tableFor f body) (valuesFor f codes body) ≡ contents 27
   fine-27 =
       packet-fine f codes body h d lc ls range
-      ∙ rw (codes-range (f .codes) (fill (times (f .codes) code) codes), front-range (f .content) (f .digits), back-range (f .content) (fill (rowFor (f .content) .after) (backFor (f .content) (f .digits))), ending-range (fill ending (f .time ∷ (f .certificate ++ f .signature))))
-      (middle (rangeFine (f .content)) (rows 27))
-    where
-      middle : (x y : Bool) → (true && ((x && (y && true)) && true)) ≡ (x && y)
-      middle true true = refl
-      middle true false = refl
-      middle false y = refl
+      ∙ rw (codes-range (f .codes) (fill (times (f .codes) code) codes), ending-range (fill ending (f .time ∷ (f .certificate ++ f .signature))))
+      (and-true (contents 27))
 
   -- each way out of the code
   pub no-digits : inside 0 9 (f .digits) ≡ false → false ≡ not (digitBad f codes body)
@@ -63,17 +52,17 @@ module _ (f : Fields) (codes body : List ℕ) (h : Counts f codes body) (d : len
         last false = refl
 
     pub no-codes : inside 0 9 codes ≡ false → false ≡ not (digitBad f codes body)
-    no-codes q = by-fine false (fine-25 e ∙ and-no _ q)
+    no-codes q = by-fine false (fine-25 ∙ and-no _ q)
 
     pub no-certificate : inside 0 9 codes ≡ true → inside 0 9 (f .certificate) ≡ false → false ≡ not (digitBad f codes body)
-    no-certificate q r = by-fine false (fine-25 e ∙ and-yes _ q ∙ last (rows 25) (inside 0 9 (f .certificate)) r)
+    no-certificate q r = by-fine false (fine-25 ∙ and-yes _ q ∙ last (contents 25) (inside 0 9 (f .certificate)) r)
       where
         last : (x y : Bool) → y ≡ false → (x && y) ≡ false
         last true y s = s
         last false y s = refl
 
-    pub by-entries : inside 0 9 codes ≡ true → inside 0 9 (f .certificate) ≡ true → rows 25 ≡ not (digitBad f codes body)
-    by-entries q r = by-fine (rows 25) (fine-25 e ∙ and-yes _ q ∙ rw r (last (rows 25)))
+    pub by-entries : inside 0 9 codes ≡ true → inside 0 9 (f .certificate) ≡ true → contents 25 ≡ not (digitBad f codes body)
+    by-entries q r = by-fine (contents 25) (fine-25 ∙ and-yes _ q ∙ rw r (last (contents 25)))
       where
         last : (x : Bool) → (x && true) ≡ x
         last true = refl

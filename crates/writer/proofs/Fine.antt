@@ -4,8 +4,8 @@ use mathlib.Core.Bool.{Bool, true, false, _&&_}
 use mathlib.Core.List.{List, [], _∷_, _++_}
 use Prim.Native.Nat.{ℕ, _*_}
 use lib.Dec.{leb}
-use lib.ListN.{length, take, drop, take-append-drop}
-use Rattle.laws.proofs.Cases.{and-yes, and-left}
+use lib.ListN.{length}
+use Rattle.laws.proofs.Cases.{and-yes}
 use Rattle.format.specs.declared.Line.{Line}
 use Rattle.format.specs.Format.{just, need, fill, times, inside, fine}
 use Rattle.format.proofs.Tables.{fill-join, fine-join, length-fill, need-times}
@@ -16,7 +16,7 @@ use Rattle.packet.specs.declared.Fields.{Fields}
 use Rattle.packet.specs.Table.{code, ending, packet, contentLines, countLine}
 use Rattle.packet.specs.Content.{countFor}
 use Rattle.packet.specs.Writing.{rowFor, frontFor, backFor, bodyFor, tableFor, valuesFor}
-use Rattle.writer.specs.Parts.{linesFor, Counts}
+use Rattle.writer.specs.Parts.{linesFor, Counts, frontFine, rowsFine, backFine}
 use Rattle.writer.proofs.Contents.{length-front}
 use Rattle.writer.proofs.Whole.{count-needs}
 use Rattle.writer.proofs.Together.{code-need, middle-long, in-order}
@@ -30,10 +30,6 @@ inside-append lo hi (x ∷ xs) ys = rw (inside-append lo hi xs ys) (assoc (leb l
     assoc : (a b c : Bool) → (a && (b && c)) ≡ ((a && b) && c)
     assoc true b c = refl
     assoc false b c = refl
-
-pub inside-take : (lo hi n : ℕ) (xs : List ℕ) → inside lo hi xs ≡ true → inside lo hi (take n xs) ≡ true
-inside-take lo hi n xs h =
-    and-left (inside lo hi (take n xs)) (inside lo hi (drop n xs)) (sym (inside-append lo hi (take n xs) (drop n xs)) ∙ ap (inside lo hi) (take-append-drop n xs) ∙ h)
 
 -- ---- tables, part by part
 pub two-fine : (a : ℕ) (A B : List Line) (x y : List ℕ) → length x ≡ need A → fine a (A ++ B) (fill (A ++ B) (x ++ y)) ≡ (fine a A (fill A x) && fine a B (fill B y))
@@ -73,26 +69,17 @@ module _ (f : Fields) (codes body : List ℕ) (h : Counts f codes body) (d : len
   abbrev middle : List ℕ
   middle = frontFor c (f .digits) ++ (bodyFor c body ++ backFor c (f .digits))
 
-  abbrev frontFine : ℕ → Bool
-  frontFine a = fine a (rowFor c .before) (fill (rowFor c .before) (frontFor c (f .digits)))
-
-  abbrev rowsFine : ℕ → Bool
-  rowsFine a = fine a (times k (rowFor c .each)) (fill (times k (rowFor c .each)) (bodyFor c body))
-
-  abbrev backFine : ℕ → Bool
-  backFine a = fine a (rowFor c .after) (fill (rowFor c .after) (backFor c (f .digits)))
-
-  content-fine : {a : ℕ} → Class a → fine a (linesFor c body) (fill (linesFor c body) middle) ≡ (frontFine a && (rowsFine a && backFine a))
+  content-fine : {a : ℕ} → Class a → fine a (linesFor c body) (fill (linesFor c body) middle) ≡ (frontFine a c (f .digits) && (rowsFine a c body && backFine a c (f .digits)))
   unfolding contentLines
   content-fine {a} q =
       two-fine a (rowFor c .before) (countLine (rowFor c .sort) k ++ (times k (rowFor c .each) ++ rowFor c .after)) (frontFor c (f .digits)) (bodyFor c body ++ backFor c (f .digits)) (length-front c (f .digits) d)
-      ∙ ap (λ (b : Bool). frontFine a && b)
+      ∙ ap (λ (b : Bool). frontFine a c (f .digits) && b)
       (two-fine a (countLine (rowFor c .sort) k) (times k (rowFor c .each) ++ rowFor c .after) [] (bodyFor c body ++ backFor c (f .digits)) (sym (count-needs (rowFor c .sort) k))
       ∙ and-yes _ (count-fine q (rowFor c .sort) k [])
       ∙ two-fine a (times k (rowFor c .each)) (rowFor c .after) (bodyFor c body) (backFor c (f .digits)) (h .bodied ∙ sym (need-times k (rowFor c .each))))
 
   pub packet-fine : {a : ℕ} → Class a → fine a (tableFor f body) (valuesFor f codes body)
-      ≡ (fine a (times (f .codes) code) (fill (times (f .codes) code) codes) && ((frontFine a && (rowsFine a && backFine a)) && fine a ending (fill ending tail)))
+      ≡ (fine a (times (f .codes) code) (fill (times (f .codes) code) codes) && ((frontFine a c (f .digits) && (rowsFine a c body && backFine a c (f .digits))) && fine a ending (fill ending tail)))
   unfolding tableFor packet
   packet-fine {a} q =
       ap (λ (xs : List ℕ). fine a (tableFor f body) (fill (tableFor f body) xs)) (in-order f codes body h d lc ls)

@@ -1,5 +1,5 @@
 -- A content's numbers and the digits behind them, in one array. Assumes nothing.
-use mathlib.Core.Path.{_≡_, sym, ap, ap₂, _∙_}
+use mathlib.Core.Path.{_≡_, sym, ap, ap₂, _∙_, subst}
 use mathlib.Core.List.{List, [], _∷_, _++_, append-nil, append-assoc}
 use Prim.Native.Nat.{ℕ, suc, _+_, _<_, _≤_}
 use native.Mathlib.Numerals.{add-one}
@@ -7,7 +7,10 @@ use native.Mathlib.Omega.{arith}
 use lib.ListN.{length, getD, set, take, length-set}
 use lib.Seq.{take-take, take-suc, take-suc-set, take-all}
 use Rattle.packet.specs.declared.Content.{Content}
-use Rattle.packet.specs.Content.{numbersOf}
+use Rattle.packet.specs.declared.Form.{Form}
+use Rattle.packet.specs.Content.{partsOf, formFor, numbersOf}
+use Rattle.writer.specs.declared.content.Laid.{Laid}
+use Rattle.writer.specs.Laying.{LaidOut}
 use Rattle.writer.specs.Puts.{Numbered, Fronted}
 
 -- six numbers are enough for any content
@@ -53,3 +56,9 @@ fronted c numbers ds r n h e f =
       front = ap (λ (x : ℕ). take (x + 35) r) (sym e) ∙ f .0 ∙ ap (λ (x : List ℕ). x ++ ds) (ap (λ (x : ℕ). take x numbers) e ∙ h .numbers);
       long = f .1;
     }
+
+-- a content laid out with such numbers
+pub laid-by : (c : Content) (r : Laid) (kind : Form) (n count : ℕ) (xs l : List ℕ) → (r .kind ≡ kind) × (r .n ≡ n) × (r .numbers ≡ xs) × (r .count ≡ count)
+    → take 6 xs ≡ l → length xs ≡ 41 → kind ≡ formFor c → n ≡ length (numbersOf c) → take (length (numbersOf c)) l ≡ numbersOf c → length (numbersOf c) ≤ 6 → count ≡ partsOf c .count → LaidOut c r
+laid-by c r kind n count xs l g e m k i f h q =
+    record { kind = g .0 ∙ k; many = g .1 ∙ i; numbers = subst (λ (ys : List ℕ). Numbered c ys) (sym (g .2)) (numbered-by c xs l e m f h); count = g .3 ∙ q }

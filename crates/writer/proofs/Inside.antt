@@ -1,20 +1,22 @@
--- Loops that test numbers against a range, and entries. Assumes nothing.
+-- Loops that test numbers against ranges: of a list, of a line, of lines, of rows of lines. Assumes nothing.
 use mathlib.Core.Path.{_≡_, sym, ap, _∙_}
-use mathlib.Core.Bool.{true, false, _&&_, and-true}
-use mathlib.Core.List.{List, [], _∷_, _++_}
+use mathlib.Core.Bool.{true, false, cond, _&&_}
+use mathlib.Core.List.{List, _++_}
 use Prim.Native.Nat.{ℕ, suc, _+_, _-_, _*_, _<_, _≤_}
 use native.Mathlib.Nat.{suc-mul}
 use native.Mathlib.Numerals.{add-one}
 use native.Mathlib.Omega.{arith}
-use lib.Dec.{leb}
 use lib.ListN.{length, getD, take, drop, length-drop, drop-of-length-le, take-append-drop}
-use lib.Seq.{drop-cons, drop-drop, length-take-le}
+use lib.Seq.{drop-cons, drop-drop, length-take-le, take-take}
 use borrow.Author.Tests.{le-leb, lt-leb}
-use Rattle.format.specs.Format.{inside, fine, fill, times, need}
-use Rattle.format.proofs.Tables.{fill-join, fine-join, length-fill}
 use Rattle.format.specs.declared.Line.{Line}
-use Rattle.packet.specs.declared.Form.the-variants.{Frequencies}
-use Rattle.packet.specs.Table.{rowOf}
+use Rattle.format.specs.Format.{own, need, inside, lineOk, fine, fill, times}
+use Rattle.format.proofs.Tables.{fill-join, fine-join, length-fill}
+use Rattle.format.proofs.Sound.{none}
+use Rattle.writer.specs.Puts.{valueOf}
+use Rattle.writer.proofs.Line.{length-value, number-at}
+use Rattle.writer.proofs.Lines.{cons}
+use Rattle.writer.proofs.Rows.{same-fill}
 
 -- ---- numbers
 module _ (xs : List ℕ) (lo hi j : ℕ) (h : j < length xs) where
@@ -34,33 +36,51 @@ pub inside-end : (xs : List ℕ) (lo hi j : ℕ) → length xs ≤ j → inside 
 unfolding inside
 inside-end xs lo hi j h = rw (drop-of-length-le xs h)
 
--- ---- an entry, of eight numbers
-abbrev pub entry : List Line
-entry = rowOf Frequencies .each
+-- ---- the numbers of a line, x being the j-th
+module _ (t : Line) (xs : List ℕ) (i : ℕ) (h : i + own t ≤ length xs) (j x : ℕ) (k : j < t .n) (e : x ≡ cond (t .free) (getD xs (i + j) 0) (t .lo)) where
+  here : x ≡ getD (valueOf t (drop i xs)) j 0
+  here = e ∙ number-at t xs i h j k
 
-pub entry-digits : (e : List ℕ) → length e ≡ 8 → inside 0 9 (take 6 (drop 2 e)) ≡ fine 25 entry (fill entry e)
-unfolding fine fill
-entry-digits e h = let l : length (drop 2 e) ≤ 6 = omega (arith, length-drop 2 e) in sym (rw (and-true (inside 0 9 (take 6 (drop 1 (drop 1 e)))), drop-drop 1 1 e))
+  within : j < length (valueOf t (drop i xs))
+  within = omega (arith, length-value t xs i h)
 
-pub entry-number : (e : List ℕ) → length e ≡ 8 → getD e 0 0 < 256 → leb 1 (getD e 0 0) ≡ fine 27 entry (fill entry e)
-unfolding fine fill inside
-entry-number [] h k = absurd (omega arith)
-entry-number (x ∷ e) h k = let b : leb x 255 ≡ true = le-leb x 255 (omega arith) in simp (b, and-true)
+  pub line-low : x < t .lo → inside (t .lo) (t .hi) (drop j (valueOf t (drop i xs))) ≡ false
+  line-low l = inside-low (valueOf t (drop i xs)) (t .lo) (t .hi) j within (omega (arith, here))
 
--- ---- entries
-pub entries-next : (a k j : ℕ) (body : List ℕ) (from : ℕ) → j < k → length body ≡ from + (k - j) * 8
-    → fine a (times (k - j) entry) (fill (times (k - j) entry) (drop from body)) ≡ (fine a entry (fill entry (take 8 (drop from body))) && fine a (times (k - (j + 1)) entry) (fill (times (k - (j + 1)) entry) (drop (from + 8) body)))
-unfolding times need
-entries-next a k j body from h l =
-    let e : k - j ≡ suc (k - (j + 1)) = omega arith in
-    let l2 = rw e at l in
-    let m : length (take 8 (drop from body)) ≡ 8 = length-take-le 8 (drop from body) (omega (arith, length-drop from body, suc-mul (k - (j + 1)) 8)) in
-    rw e
-    (ap (λ (xs : List ℕ). fine a (entry ++ times (k - (j + 1)) entry) (fill (entry ++ times (k - (j + 1)) entry) xs)) (sym (take-append-drop 8 (drop from body)))
-    ∙ ap (fine a (entry ++ times (k - (j + 1)) entry)) (fill-join entry (times (k - (j + 1)) entry) (take 8 (drop from body)) (drop 8 (drop from body)) m)
-    ∙ fine-join a entry (times (k - (j + 1)) entry) (fill entry (take 8 (drop from body))) (fill (times (k - (j + 1)) entry) (drop 8 (drop from body))) (length-fill entry (take 8 (drop from body)))
-    ∙ ap (λ (xs : List ℕ). fine a entry (fill entry (take 8 (drop from body))) && fine a (times (k - (j + 1)) entry) (fill (times (k - (j + 1)) entry) xs)) (drop-drop 8 from body))
+  pub line-high : t .lo ≤ x → t .hi < x → inside (t .lo) (t .hi) (drop j (valueOf t (drop i xs))) ≡ false
+  line-high l g = inside-high (valueOf t (drop i xs)) (t .lo) (t .hi) j within (omega (arith, here)) (omega (arith, here))
 
-pub entries-end : (a k j : ℕ) (body : List ℕ) (from : ℕ) → k ≤ j → fine a (times (k - j) entry) (fill (times (k - j) entry) (drop from body)) ≡ true
+  pub line-next : t .lo ≤ x → x ≤ t .hi → inside (t .lo) (t .hi) (drop j (valueOf t (drop i xs))) ≡ inside (t .lo) (t .hi) (drop (j + 1) (valueOf t (drop i xs)))
+  line-next l g = inside-next (valueOf t (drop i xs)) (t .lo) (t .hi) j within (omega (arith, here)) (omega (arith, here))
+
+-- ---- lines, the first m of six
+module _ (a : ℕ) (ls : List Line) (m j : ℕ) (n : length ls ≡ 6) (h : m ≤ 6) where
+  pub lines-turn : j < m → (xs : List ℕ) (i : ℕ) → fine a (drop j (take m ls)) (fill (drop j (take m ls)) (drop i xs))
+      ≡ (lineOk a (getD ls j none) (valueOf (getD ls j none) (drop i xs)) && fine a (drop (j + 1) (take m ls)) (fill (drop (j + 1) (take m ls)) (drop (i + own (getD ls j none)) xs)))
+  unfolding fine fill
+  lines-turn k xs i = rw (cons ls m j n h k, drop-drop (own (getD ls j none)) i xs)
+
+  pub lines-done : m ≤ j → (xs : List ℕ) → fine a (drop j (take m ls)) (fill (drop j (take m ls)) xs) ≡ true
+  unfolding fine
+  lines-done k xs = rw (drop-of-length-le (take m ls) {i = j} (omega (arith, length-take-le m ls (omega arith))))
+
+-- ---- rows of lines
+pub rows-turn : (a n j w : ℕ) (row : List Line) (wide xs : List ℕ) (i : ℕ) → j < n → need row ≡ w → w ≤ length wide → length xs ≡ i + (n - j) * w → take w wide ≡ take w (drop i xs)
+    → fine a (times (n - j) row) (fill (times (n - j) row) (drop i xs)) ≡ (fine a row (fill row wide) && fine a (times (n - (j + 1)) row) (fill (times (n - (j + 1)) row) (drop (i + w) xs)))
+unfolding times
+rows-turn a n j w row wide xs i h e lw l ew =
+    let r : n - j ≡ suc (n - (j + 1)) = omega arith in
+    let rest = times (n - (j + 1)) row in
+    let l2 = rw r at l in
+    let ld = length-drop i xs in
+    let lt : length (take w (drop i xs)) ≡ w = length-take-le w (drop i xs) (omega (arith, suc-mul (n - (j + 1)) w)) in
+    let f1 : fill row wide ≡ fill row (take w (drop i xs)) = same-fill row wide (take w (drop i xs)) (omega arith) (omega arith) (rw e (ew ∙ sym (take-take w w (drop i xs) (omega arith)))) in
+    rw r
+    (ap (λ (ys : List ℕ). fine a (row ++ rest) (fill (row ++ rest) ys)) (sym (take-append-drop w (drop i xs)))
+    ∙ ap (fine a (row ++ rest)) (fill-join row rest (take w (drop i xs)) (drop w (drop i xs)) (lt ∙ sym e))
+    ∙ fine-join a row rest (fill row (take w (drop i xs))) (fill rest (drop w (drop i xs))) (length-fill row (take w (drop i xs)))
+    ∙ rw (f1, drop-drop w i xs))
+
+pub rows-done : (a n j : ℕ) (row : List Line) (xs : List ℕ) → n ≤ j → fine a (times (n - j) row) (fill (times (n - j) row) xs) ≡ true
 unfolding times fine
-entries-end a k j body from h = let e : k - j ≡ 0 = omega arith in rw e
+rows-done a n j row xs h = let i : n - j ≡ 0 = omega arith in rw i

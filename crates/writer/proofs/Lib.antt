@@ -13,5 +13,6 @@ pub mod Rules
 pub mod Digits
 pub mod Taken
 pub mod Size
+pub mod Sizes
 pub mod Answers
 pub mod Written

@@ -42,7 +42,7 @@ module _ (ls : List Line) (m j : ℕ) (n : length ls ≡ 6) (h : m ≤ 6) (k : j
   abbrev this : Line
   this = getD ls j none
 
-  cons : drop j (front m ls) ≡ this ∷ drop (j + 1) (front m ls)
+  pub cons : drop j (front m ls) ≡ this ∷ drop (j + 1) (front m ls)
   cons =
       let l : j < length (front m ls) = omega (arith, length-take-le m ls (omega arith)) in
       rw (add-one, drop-cons (front m ls) j none l, getD-take m ls j none k)

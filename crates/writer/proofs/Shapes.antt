@@ -10,7 +10,7 @@ use Rattle.laws.specs.Bits.{bits}
 use Rattle.laws.specs.Scan.{all}
 use Rattle.laws.proofs.Writes.{sets-append}
 use Rattle.format.specs.declared.Line.{Line}
-use Rattle.format.specs.Format.{size, need, encode, fill, times, sound}
+use Rattle.format.specs.Format.{size, need, encode, fill, fine, times, sound}
 use Rattle.packet.specs.declared.Lines.{Lines}
 use Rattle.packet.specs.Shape.{Listed}
 use Rattle.writer.specs.Puts.{After, Puttable, Rows}
@@ -42,6 +42,13 @@ module _ (ts : Lines) (ls : List Line) (h : Listed ts ls) where
       → After out last p (encode (times n ls) (fill (times n ls) xs)) r (n * size ls)
   have-put-rows out last xs n p r a =
       subst (λ (l : List Line). After out last p (encode (times n l) (fill (times n l) xs)) r (n * size l)) (h .lines) a
+
+  -- and tested against them
+  pub have-fit : (a : ℕ) (xs ys : List ℕ) → fill ls xs ≡ fill ls ys → fine a (take (ts .m) (ts .all)) (fill (take (ts .m) (ts .all)) xs) ≡ fine a ls (fill ls ys)
+  have-fit a xs ys e = rw (h .lines, e)
+
+  pub have-fit-rows : (a n : ℕ) (xs : List ℕ) → fine a (times n (take (ts .m) (ts .all))) (fill (times n (take (ts .m) (ts .all))) xs) ≡ fine a (times n ls) (fill (times n ls) xs)
+  have-fit-rows a n xs = rw (h .lines)
 
 -- one part behind another
 pub then-put : (out mid last : List ℕ) (p q r : ℕ) (v w : List ℕ) (s t : ℕ) → length v ≡ s → After out mid p v q s → After mid last q w r t → After out last p (v ++ w) r (s + t)

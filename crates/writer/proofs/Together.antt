@@ -20,7 +20,8 @@ use Rattle.packet.specs.Writing.{rowFor, frontFor, backFor, bodyFor, sizeFor, t
 use Rattle.writer.specs.Puts.{After}
 use Rattle.writer.specs.Parts.{linesFor, contentBits, contentSize, headBits, endingBits, Lent, Counts}
 use Rattle.writer.proofs.Rows.{encode-size}
-use Rattle.writer.proofs.Contents.{small, length-front, length-back}
+use Rattle.packet.proofs.Good.{good}
+use Rattle.writer.proofs.Contents.{length-front, length-back}
 use Rattle.writer.proofs.Shapes.{then-put}
 use Rattle.writer.proofs.Whole.{two, count-needs, content-sizes, front-small, body-small, bodied}
 
@@ -48,7 +49,7 @@ size-least f body = omega arith
 
 pub content-small : (c : Content) (body : List ℕ) → Lent c body → contentSize c body ≤ 10456
 content-small c body h =
-    omega (arith, content-sizes c (replicate 35 0) body refl (bodied c body h), front-small c (countFor c body), body-small c body h, small (formFor c) .after-size)
+    omega (arith, content-sizes c (replicate 35 0) body refl (bodied c body h), front-small c (countFor c body), body-small c body h, good (formFor c) .rest)
 
 -- ---- the head
 head-long : (kind p n : ℕ) → length (headBits kind p n) ≡ 24

@@ -19,7 +19,8 @@ use Rattle.packet.specs.Writing.{rowFor, frontFor, backFor, bodyFor}
 use Rattle.writer.specs.Puts.{After}
 use Rattle.writer.specs.Parts.{frontBits, frontSize, bodyBits, bodySize, backBits, contentBits, contentSize, headBits, endingBits, Lent, Bodied}
 use Rattle.writer.proofs.Rows.{encode-size}
-use Rattle.writer.proofs.Contents.{small, length-front, body-whole}
+use Rattle.packet.proofs.Good.{good}
+use Rattle.writer.proofs.Contents.{length-front, body-whole}
 use Rattle.writer.proofs.Shapes.{then-put}
 
 -- a count takes none of the numbers
@@ -92,11 +93,11 @@ count-small sort.Unknown k = omega arith
 
 pub front-small : (c : Content) (k : ℕ) → frontSize c k ≤ 160
 unfolding frontSize
-front-small c k = omega (arith, small (formFor c) .before-size, count-small (rowFor c .sort) k)
+front-small c k = omega (arith, good (formFor c) .first, count-small (rowFor c .sort) k)
 
 pub body-small : (c : Content) (body : List ℕ) → Lent c body → bodySize c body ≤ 10200
 unfolding bodySize
-body-small c body h = le-trans (mul-le-mul-left (countFor c body) (small (formFor c) .each-size)) (let f = h .few in omega arith)
+body-small c body h = le-trans (mul-le-mul-left (countFor c body) (good (formFor c) .row)) (let f = h .few in omega arith)
 
 -- ---- what stands before the codes, and behind the content
 pub head-put : (out a b last : List ℕ) (kind p n : ℕ) → After out a 0 (bitsOf 5 kind) 5 5 → After a b 5 (bitsOf 11 (p - 2)) 16 11 → After b last 16 (bitsOf 8 n) 24 8 → After out last 0 (headBits kind p n) 24 24

@@ -3,27 +3,29 @@ use mathlib.Core.Path.{_≡_, refl, sym, ap, ap₂, _∙_}
 use mathlib.Core.Bool.{Bool, true, false, not, _&&_, _||_, false≢true}
 use mathlib.Core.List.{List, [], _∷_, _++_}
 use Prim.Native.Nat.{ℕ, zero, suc, _+_, _*_, _/_, _≤_}
-use native.Mathlib.Nat.{zero-mul}
 use native.Mathlib.Omega.{arith}
 use lib.Dec.{ltb, eqb}
 use lib.ListN.{length, drop}
 use lib.Seq.{sets, drop-nil, drop-append-add}
-use borrow.Author.Tests.{ltb-false, eqb-true, not-false}
+use borrow.Author.Tests.{ltb-false}
 use Rattle.laws.specs.Bits.{bits, bytes, spread, bitsOf}
 use Rattle.laws.proofs.Bits.{Under, length-bitsOf, length-spread, length-run, under-run, under-append, bytes-bits, bits-bytes, spread-append, under-drop}
 use Rattle.laws.proofs.Refusals.{not-due}
 use Rattle.laws.proofs.Writes.{from-front}
 use Rattle.format.specs.Format.{encode, need, fine}
 use Rattle.format.proofs.Round.{under-encode}
+use Rattle.packet.specs.declared.Sort.{Sort}
 use Rattle.packet.specs.declared.Sort.the-variants as sort
 use Rattle.packet.specs.declared.Content.{Content}
-use Rattle.packet.specs.declared.Content.the-variants as content
+use Rattle.packet.specs.Table.{countBy}
 use Rattle.packet.specs.declared.Fields.{Fields}
-use Rattle.packet.specs.Content.{countFor, noSuchDay}
+use Rattle.packet.specs.Content.{partsOf, formFor, countFor, noSuchDay}
+use Rattle.packet.proofs.Bytes.{bytes-least}
+use Rattle.packet.proofs.Contents.{content-known}
 use Rattle.packet.specs.Writing.{rowFor, sizeFor, tableFor, valuesFor, bytesFor, lentBad, otherType, bodyLost, digitsLost, countBad, digitBad, notTaken, writtenAnswer, written, packetOutput}
-use Rattle.writer.specs.Parts.{Lent, Writable}
-use Rattle.writer.specs.Ranges.{bytesOf}
-use Rattle.writer.proofs.Taken.{good-counts, counted-lent}
+use Rattle.writer.specs.Parts.{Lent, Writable, bytesOf}
+use Rattle.packet.proofs.Lent.{one-each, lent-enough, lent-by}
+use Rattle.writer.proofs.Taken.{good-counts}
 use Rattle.writer.proofs.Size.{size-is, content-bits}
 use Rattle.writer.proofs.Together.{code-size, packet-long}
 use Rattle.packet.proofs.Refused.{not-written}
@@ -56,48 +58,34 @@ passed f codes body room e =
     record { counts = b .0; taken = d .0; small = ltb-false 250 (sizeFor f body) (s .0); room-enough = ltb-false room (sizeFor f body) (r .0) }
 
 -- all of the body is the content's
-body-of : (f : Fields) (codes body : List ℕ) → notTaken f codes body ≡ false → bodyLost (rowFor (f .content) .sort) body ≡ false
+body-of : (f : Fields) (codes body : List ℕ) → notTaken f codes body ≡ false → bodyLost (rowFor (f .content) .sort) (length body) ≡ false
 unfolding notTaken
 body-of f codes body e =
-    second (otherType f) (bodyLost (rowFor (f .content) .sort) body) (digitsLost (f .content) (f .digits) || ((eqb (f .kind) 1 && not (eqb (f .codes) 0)) || (not (fine 27 (tableFor f body) (valuesFor f codes body)) || noSuchDay (f .content)))) e
+    second (otherType f) (bodyLost (rowFor (f .content) .sort) (length body)) (digitsLost (f .content) (f .digits) || ((eqb (f .kind) 1 && not (eqb (f .codes) 0)) || (not (fine 27 (tableFor f body) (valuesFor f codes body)) || noSuchDay (f .content)))) e
   where
     second : (a b c : Bool) → (a || (b || c)) ≡ false → b ≡ false
     second true b c h = absurd (false≢true (sym h))
     second false true c h = absurd (false≢true (sym h))
     second false false c h = refl
 
-none : (c : Content) (body : List ℕ) → countFor c body ≡ 0 → not (eqb (length body) 0) ≡ false → Lent c body
-none c body k l =
-    let e : length body ≡ 0 = eqb-true (length body) 0 (not-false (eqb (length body) 0) l) in
-    record { few = omega arith; numbers = e ∙ sym (ap (λ (n : ℕ). n * need (rowFor c .each)) k ∙ zero-mul (need (rowFor c .each))) }
-
 -- a raw body is no longer than its packet
 raw-short : (c : Content) (body : List ℕ) (n : ℕ) → 77 + 12 * n + bytesOf c (length body) ≤ 250 → rowFor c .sort ≡ sort.Raw → length body ≤ 255
-raw-short content.Raw body n h q = omega arith
-raw-short (content.Frequencies k) body n h q = let z : _≡_ {A = ℕ} 0 1 = cc in omega arith
-raw-short (content.Address m) body n h q = let z : _≡_ {A = ℕ} 0 1 = cc in omega arith
-raw-short (content.Keep on period) body n h q = let z : _≡_ {A = ℕ} 0 1 = cc in omega arith
-raw-short (content.Clock year month day hour minute second) body n h q = let z : _≡_ {A = ℕ} 0 1 = cc in omega arith
-raw-short (content.Reset change) body n h q = let z : _≡_ {A = ℕ} 0 1 = cc in omega arith
-raw-short content.Factory body n h q = let z : _≡_ {A = ℕ} 0 1 = cc in omega arith
-raw-short (content.Drill action) body n h q = let z : _≡_ {A = ℕ} 0 1 = cc in omega arith
-raw-short (content.Text kind set t) body n h q = let z : _≡_ {A = ℕ} 0 1 = cc in omega arith
-raw-short (content.Command k) body n h q = let z : _≡_ {A = ℕ} 0 1 = cc in omega arith
-raw-short (content.Hold serial) body n h q = let z : _≡_ {A = ℕ} 0 1 = cc in omega arith
+raw-short c body n h q =
+    let e : countFor c body ≡ length body = ap (λ (s : Sort). countBy s (partsOf c .count) (length body)) q in
+    omega (arith, e, bytes-least (formFor c) (partsOf c .count) (length body), h)
 
-lent-of : (c : Content) (body : List ℕ) → bodyLost (rowFor c .sort) body ≡ false → lentBad (rowFor c .sort) (countFor c body) (need (rowFor c .each)) body ≡ false → (rowFor c .sort ≡ sort.Raw → length body ≤ 255) → Lent c body
-unfolding need
-lent-of content.Raw body l b r = record { few = r refl; numbers = omega arith }
-lent-of (content.Frequencies k) body l b r = counted-lent (content.Frequencies k) body refl b
-lent-of (content.Address m) body l b r = counted-lent (content.Address m) body refl b
-lent-of (content.Keep on period) body l b r = none (content.Keep on period) body refl l
-lent-of (content.Clock year month day hour minute second) body l b r = none (content.Clock year month day hour minute second) body refl l
-lent-of (content.Reset change) body l b r = none (content.Reset change) body refl l
-lent-of content.Factory body l b r = none content.Factory body refl l
-lent-of (content.Drill action) body l b r = none (content.Drill action) body refl l
-lent-of (content.Text kind set t) body l b r = counted-lent (content.Text kind set t) body refl b
-lent-of (content.Command k) body l b r = counted-lent (content.Command k) body refl b
-lent-of (content.Hold serial) body l b r = none (content.Hold serial) body refl l
+few-by : (s : Sort) (k w : ℕ) (body : List ℕ) → lentBad s (countBy s k (length body)) w (length body) ≡ false → (s ≡ sort.Raw → length body ≤ 255) → countBy s k (length body) ≤ 255
+few-by sort.Fixed k w body b r = omega arith
+few-by sort.Counted k w body b r = lent-enough k w body b .0
+few-by sort.Raw k w body b r = r refl
+few-by sort.Unknown k w body b r = omega arith
+
+lent-of : (c : Content) (body : List ℕ) → bodyLost (rowFor c .sort) (length body) ≡ false → lentBad (rowFor c .sort) (countFor c body) (need (rowFor c .each)) (length body) ≡ false → (rowFor c .sort ≡ sort.Raw → length body ≤ 255) → Lent c body
+lent-of c body l b r =
+    record {
+      few = few-by (rowFor c .sort) (partsOf c .count) (need (rowFor c .each)) body b r;
+      numbers = lent-by (partsOf c .count) (need (rowFor c .each)) body (rowFor c .sort) (one-each (formFor c)) (content-known c) l b;
+    }
 
 pub writable : (f : Fields) (codes body : List ℕ) (room : ℕ) → Passed f codes body room → Writable f codes body
 writable f codes body room p =

@@ -1,3 +1,3 @@
 pub mod Puts
 pub mod Parts
-pub mod Ranges
+pub mod Laying

@@ -1,16 +1,19 @@
 -- The bits of a packet part by part, as the writer puts them (01, Packet; 000, table 1).
 use mathlib.Core.Path.{_≡_}
+use mathlib.Core.Bool.{Bool, not, _&&_, _||_}
 use mathlib.Core.List.{List, [], _++_}
 use Prim.Native.Nat.{ℕ, _+_, _-_, _*_, _≤_}
 use lib.ListN.{length}
+use lib.Dec.{eqb}
 use Rattle.laws.specs.Bits.{bitsOf, spread}
 use Rattle.format.specs.declared.Line.{Line}
-use Rattle.format.specs.Format.{size, need, encode, fill, times}
+use Rattle.format.specs.Format.{size, need, encode, fill, fine, times}
 use Rattle.packet.specs.declared.Content.{Content}
 use Rattle.packet.specs.declared.Fields.{Fields}
-use Rattle.packet.specs.Table.{countLine, contentLines}
-use Rattle.packet.specs.Content.{countFor}
-use Rattle.packet.specs.Writing.{rowFor, frontFor, backFor, bodyFor, sizeFor}
+use Rattle.packet.specs.Table.{contentBytes, countLine, contentLines}
+use Rattle.packet.specs.Content.{formFor, countFor}
+use Rattle.packet.specs.Writing.{rowFor, frontFor, backFor, bodyFor, sizeFor, otherType, bodyLost, digitsLost}
+use Rattle.writer.specs.Puts.{countLent}
 
 -- a content: its first lines and its count; what is repeated; its last lines
 unfoldable pub frontBits : Content → List ℕ → ℕ → List ℕ
@@ -72,3 +75,25 @@ pub record Writable (f : Fields) (codes body : List ℕ) : Type 0 where
   pub counts : Counts f codes body
   pub lent : Lent (f .content) body
   pub small : sizeFor f body ≤ 250
+
+-- ---- what the answers ask, part by part (01, Numbers given back, Packet writer)
+-- the bytes of a content, by the column of paper 01's table, where so many numbers are lent
+abbrev pub bytesOf : Content → ℕ → ℕ
+bytesOf c lent = contentBytes (formFor c) (countLent c lent)
+
+-- no first line is due the answer a
+abbrev pub frontFine : ℕ → Content → List ℕ → Bool
+frontFine a c ds = fine a (rowFor c .before) (fill (rowFor c .before) (frontFor c ds))
+
+-- no line of what is repeated
+abbrev pub rowsFine : ℕ → Content → List ℕ → Bool
+rowsFine a c body = fine a (times (countFor c body) (rowFor c .each)) (fill (times (countFor c body) (rowFor c .each)) (bodyFor c body))
+
+-- no last line
+abbrev pub backFine : ℕ → Content → List ℕ → Bool
+backFine a c ds = fine a (rowFor c .after) (fill (rowFor c .after) (backFor c ds))
+
+-- 27 for what could not be handed back
+unfoldable pub somethingLost : Fields → List ℕ → Bool
+somethingLost f body =
+    otherType f || (bodyLost (rowFor (f .content) .sort) (length body) || (digitsLost (f .content) (f .digits) || (eqb (f .kind) 1 && not (eqb (f .codes) 0))))

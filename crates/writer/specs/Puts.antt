@@ -11,8 +11,8 @@ use Rattle.format.specs.declared.Line.{Line}
 use Rattle.format.specs.Format.{need, size, sound}
 use Rattle.packet.specs.declared.Lines.{Lines}
 use Rattle.packet.specs.declared.Content.{Content}
-use Rattle.packet.specs.declared.Content.the-variants as content
-use Rattle.packet.specs.Content.{numbersOf}
+use Rattle.packet.specs.Table.{rowOf, countBy}
+use Rattle.packet.specs.Content.{partsOf, formFor, numbersOf}
 
 -- the numbers of a line, where xs are those at hand
 abbrev pub valueOf : Line → List ℕ → List ℕ
@@ -53,15 +53,5 @@ pub record Fronted (c : Content) (ds r : List ℕ) : Type 0 where
   pub long : length r ≡ 41
 
 -- the count of a content, where so many bytes are lent
-abbrev pub countOf : Content → ℕ → ℕ
-countOf content.Raw lent = lent
-countOf (content.Frequencies k) lent = k
-countOf (content.Address m) lent = m
-countOf (content.Keep on period) lent = 0
-countOf (content.Clock year month day hour minute second) lent = 0
-countOf (content.Reset change) lent = 0
-countOf content.Factory lent = 0
-countOf (content.Drill action) lent = 0
-countOf (content.Text kind set t) lent = t
-countOf (content.Command k) lent = k
-countOf (content.Hold serial) lent = 0
+abbrev pub countLent : Content → ℕ → ℕ
+countLent c lent = countBy (rowOf (formFor c) .sort) (partsOf c .count) lent

@@ -3,73 +3,23 @@ ghost use mathlib.Core.Path.{_≡_};
 ghost use mathlib.Core.List.{[], _∷_, _++_};
 ghost use Prim.Native.Nat.{_+_, _<_, _≤_};
 ghost use lib.ListN.{length, take};
-ghost use Rattle.packet.specs.Content.{formFor, numbersOf};
+ghost use Rattle.packet.specs.Content.{formFor};
 ghost use Rattle.format.specs.Format.{size};
-ghost use Rattle.packet.specs.Writing.{rowFor};
-ghost use Rattle.writer.specs.Puts.{After, Fronted, Numbered, countOf};
+ghost use Rattle.packet.specs.Writing.{rowFor, digitsBefore, digitsAfter};
+ghost use Rattle.writer.specs.Puts.{After, Fronted, countLent};
+ghost use Rattle.writer.specs.Laying.{LaidOut};
 ghost use Rattle.writer.specs.Parts.{frontBits, frontSize, bodyBits, bodySize, backBits, contentBits, contentSize, Lent};
 use crate::puts;
 use packet::Content;
 use packet::Form;
+use packet::Sort;
 
-// The kind of a content.
-pub(crate) fn form_for(c: Content) -> Form
-    ensures { λ r. ⌜ r ≡ formFor c ⌝ }
-{
-    match c {
-        Content::Raw => Form::Raw,
-        Content::Frequencies { count: _ } => Form::Frequencies,
-        Content::Address { length: _ } => Form::Address,
-        Content::Keep { on: _, period: _ } => Form::Keep,
-        Content::Clock {
-            year: _,
-            month: _,
-            day: _,
-            hour: _,
-            minute: _,
-            second: _,
-        } => Form::Clock,
-        Content::Reset { change: _ } => Form::Reset,
-        Content::Factory => Form::Factory,
-        Content::Drill { action: _ } => Form::Drill,
-        Content::Text {
-            kind: _,
-            set: _,
-            length: _,
-        } => Form::Text,
-        Content::Command { length: _ } => Form::Command,
-        Content::Hold { serial: _ } => Form::Hold,
-    }
-}
-
-// Its count, where a body of so many bytes is lent.
-pub(crate) fn count_for(c: Content, lent: usize) -> usize
-    ensures { λ r. ⌜ r ≡ countOf c lent ⌝ }
-{
-    match c {
-        Content::Raw => lent,
-        Content::Frequencies { count } => count,
-        Content::Address { length } => length,
-        Content::Keep { on: _, period: _ } => 0,
-        Content::Clock {
-            year: _,
-            month: _,
-            day: _,
-            hour: _,
-            minute: _,
-            second: _,
-        } => 0,
-        Content::Reset { change: _ } => 0,
-        Content::Factory => 0,
-        Content::Drill { action: _ } => 0,
-        Content::Text {
-            kind: _,
-            set: _,
-            length,
-        } => length,
-        Content::Command { length } => length,
-        Content::Hold { serial: _ } => 0,
-    }
+// A content laid out: its kind, how many numbers it has, the numbers, and its count.
+pub(crate) struct Laid {
+    pub(crate) kind: Form,
+    pub(crate) n: usize,
+    pub(crate) numbers: [u32; 41],
+    pub(crate) count: usize,
 }
 
 // Six numbers, then zeros.
@@ -86,44 +36,30 @@ fn six(a: u32, b: u32, c: u32, d: u32, e: u32, f: u32) -> [u32; 41]
     all
 }
 
-// How many numbers a content has, and the numbers.
-fn numbers_in(c: Content) -> usize
-    ensures { λ r. ⌜ (r ≡ length (numbersOf c)) × (r ≤ 6) ⌝ }
+fn laid_as(kind: Form, n: usize, numbers: [u32; 41], count: usize) -> Laid
+    ensures { λ r. ⌜ (r .kind ≡ kind) × (r .n ≡ n) × (r .numbers ≡ numbers) × (r .count ≡ count) ⌝ }
 {
-    match c {
-        Content::Raw => 0,
-        Content::Frequencies { count: _ } => 0,
-        Content::Address { length: _ } => 0,
-        Content::Keep { on: _, period: _ } => 2,
-        Content::Clock {
-            year: _,
-            month: _,
-            day: _,
-            hour: _,
-            minute: _,
-            second: _,
-        } => 6,
-        Content::Reset { change: _ } => 1,
-        Content::Factory => 0,
-        Content::Drill { action: _ } => 1,
-        Content::Text {
-            kind: _,
-            set: _,
-            length: _,
-        } => 2,
-        Content::Command { length: _ } => 0,
-        Content::Hold { serial: _ } => 1,
+    Laid {
+        kind: kind,
+        n: n,
+        numbers: numbers,
+        count: count,
     }
 }
 
-fn numbers_of(c: Content) -> [u32; 41]
-    ensures { λ r. ⌜ Numbered c r ⌝ }
+// From a content to its numbers: an arm a type.
+fn lay(c: Content) -> Laid
+    ensures { λ r. ⌜ LaidOut c r ⌝ }
 {
     match c {
-        Content::Raw => six(0, 0, 0, 0, 0, 0),
-        Content::Frequencies { count: _ } => six(0, 0, 0, 0, 0, 0),
-        Content::Address { length: _ } => six(0, 0, 0, 0, 0, 0),
-        Content::Keep { on, period } => six(on as u32, period as u32, 0, 0, 0, 0),
+        Content::Raw => laid_as(Form::Raw, 0, six(0, 0, 0, 0, 0, 0), 0),
+        Content::Frequencies { count } => {
+            laid_as(Form::Frequencies, 0, six(0, 0, 0, 0, 0, 0), count)
+        }
+        Content::Address { length } => laid_as(Form::Address, 0, six(0, 0, 0, 0, 0, 0), length),
+        Content::Keep { on, period } => {
+            laid_as(Form::Keep, 2, six(on as u32, period as u32, 0, 0, 0, 0), 0)
+        }
         Content::Clock {
             year,
             month,
@@ -131,25 +67,70 @@ fn numbers_of(c: Content) -> [u32; 41]
             hour,
             minute,
             second,
-        } => six(
-            year as u32,
-            month as u32,
-            day as u32,
-            hour as u32,
-            minute as u32,
-            second as u32,
-        ),
-        Content::Reset { change } => six(change as u32, 0, 0, 0, 0, 0),
-        Content::Factory => six(0, 0, 0, 0, 0, 0),
-        Content::Drill { action } => six(action as u32, 0, 0, 0, 0, 0),
-        Content::Text {
-            kind,
-            set,
-            length: _,
-        } => six(kind as u32, set as u32, 0, 0, 0, 0),
-        Content::Command { length: _ } => six(0, 0, 0, 0, 0, 0),
-        Content::Hold { serial } => six(serial as u32, 0, 0, 0, 0, 0),
+        } => {
+            let numbers = six(
+                year as u32,
+                month as u32,
+                day as u32,
+                hour as u32,
+                minute as u32,
+                second as u32,
+            );
+            laid_as(Form::Clock, 6, numbers, 0)
+        }
+        Content::Reset { change } => {
+            laid_as(Form::Reset, 1, six(change as u32, 0, 0, 0, 0, 0), 0)
+        }
+        Content::Factory => laid_as(Form::Factory, 0, six(0, 0, 0, 0, 0, 0), 0),
+        Content::Drill { action } => {
+            laid_as(Form::Drill, 1, six(action as u32, 0, 0, 0, 0, 0), 0)
+        }
+        Content::Text { kind, set, length } => {
+            laid_as(
+                Form::Text,
+                2,
+                six(kind as u32, set as u32, 0, 0, 0, 0),
+                length,
+            )
+        }
+        Content::Command { length } => laid_as(Form::Command, 0, six(0, 0, 0, 0, 0, 0), length),
+        Content::Hold { serial } => laid_as(Form::Hold, 1, six(serial as u32, 0, 0, 0, 0, 0), 0),
     }
+}
+
+// The kind of a content.
+pub(crate) fn form_for(c: Content) -> Form
+    ensures { λ r. ⌜ r ≡ formFor c ⌝ }
+{
+    let l = lay(c);
+    let kind = l.kind;
+    kind
+}
+
+// Its count, where a body of so many bytes is lent.
+pub(crate) fn count_for(c: Content, lent: usize) -> usize
+    ensures { λ r. ⌜ r ≡ countLent c lent ⌝ }
+{
+    let l = lay(c);
+    let kind = l.kind;
+    let s = packet::row_of(kind);
+    let sort = s.sort;
+    match sort {
+        Sort::Fixed => 0,
+        Sort::Counted => l.count,
+        Sort::Raw => lent,
+        Sort::Unknown => 0,
+    }
+}
+
+// How many of the digits beside a content it uses.
+pub(crate) fn digits_used(c: Content) -> usize
+    ensures { λ r. ⌜ (r ≡ digitsBefore c + digitsAfter c) × (r ≤ 35) ⌝ }
+{
+    let l = lay(c);
+    let kind = l.kind;
+    let z = packet::sizes_of(kind);
+    z.first - l.n + z.last
 }
 
 // The digits behind the first n numbers.
@@ -170,7 +151,9 @@ fn with_digits(numbers: [u32; 41], n: usize, digits: [u8; 35]) -> [u32; 41]
 pub(crate) fn front_of(c: Content, digits: [u8; 35]) -> [u32; 41]
     ensures { λ r. ⌜ Fronted c digits r ⌝ }
 {
-    with_digits(numbers_of(c), numbers_in(c), digits)
+    let l = lay(c);
+    let numbers = l.numbers;
+    with_digits(numbers, l.n, digits)
 }
 
 // What stands before the repeated part: the first lines, and the count where there is one.
@@ -186,17 +169,18 @@ fn put_front(out: &mut [u8], p: usize, c: Content, digits: [u8; 35], k: usize) -
     puts::put_count(out, q, sort, k)
 }
 
-// The repeated part: entries of eight numbers, or bytes, of which most contents have none.
+// The repeated part: entries, or bytes, of which most contents have none.
 fn put_body(out: &mut [u8], p: usize, c: Content, body: &[u8]) -> usize
     requires { ⌜ Lent c (now body) × (p < 3000) ⌝ }
     ensures { λ r. ⌜ After (now (out .entry)) (now (out .exit)) p (bodyBits c (now (body .entry))) r (bodySize c (now (body .entry))) ⌝ }
 {
     let f = form_for(c);
-    if packet::type_of(f) == 0 {
+    if packet::has_entries(f) {
         let s = packet::row_of(f);
+        let z = packet::sizes_of(f);
         let each = s.each;
         let k = count_for(c, body.len());
-        puts::put_rows(out, p, each, k, 8, body)
+        puts::put_rows(out, p, each, k, z.row, body)
     } else {
         puts::put_octets(out, p, body)
     }

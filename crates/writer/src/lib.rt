@@ -1,5 +1,6 @@
 // The packet writer: fields, codes and body as the bytes of a packet.
 mod content;
+mod fits;
 mod packets;
 mod puts;
 mod tests;

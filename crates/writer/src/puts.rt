@@ -15,7 +15,7 @@ use packet::Lines;
 use packet::Sort;
 
 // The number at i of a line: its own, or the one that it always has.
-fn number_of(t: Line, xs: &[u32], i: usize) -> u32
+pub(crate) fn number_of(t: Line, xs: &[u32], i: usize) -> u32
     ensures { λ r. ⌜ r ≡ cond (t .free) (getD (now (xs .entry)) i 0) (t .lo) ⌝ }
 {
     let free = t.free;
@@ -51,7 +51,7 @@ fn width(t: Line) -> usize
     t.n * t.w
 }
 
-fn taken(t: Line) -> usize
+pub(crate) fn taken(t: Line) -> usize
     ensures { λ r. ⌜ r ≡ own t ⌝ }
 {
     let free = t.free;

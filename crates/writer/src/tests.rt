@@ -1,20 +1,20 @@
 // What is wrong with fields: the answers 23, 26, 25, 27, 20 and 10, in that order.
 ghost use mathlib.Core.Path.{_≡_};
-ghost use mathlib.Core.Bool.{not, _&&_, false};
+ghost use mathlib.Core.Bool.{not, _&&_, true, false};
 ghost use Prim.Native.Nat.{_+_, _*_, _<_, _≤_};
-ghost use lib.ListN.{length, drop};
+ghost use lib.ListN.{drop};
 ghost use Rattle.laws.specs.Refusals.{first};
-ghost use Rattle.format.specs.Format.{inside, fine, fill, times};
-ghost use Rattle.packet.specs.declared.Form.the-variants as form;
-ghost use Rattle.packet.specs.Table.{rowOf, typeOf};
-ghost use Rattle.packet.specs.Content.{formFor, countFor, noSuchDay};
-ghost use Rattle.packet.specs.Writing.{rowFor, bodyFor, digitsBefore, digitsAfter, digitsLost, countBad, digitBad, notTaken, writeCases, writtenAnswer};
+ghost use Rattle.format.specs.Format.{inside, need};
+ghost use Rattle.packet.specs.Content.{formFor, noSuchDay};
+ghost use Rattle.packet.specs.Reading.{hasEntries};
+ghost use Rattle.packet.specs.Writing.{rowFor, lentBad, bodyLost, digitsLost, countBad, digitBad, notTaken, writeCases, writtenAnswer};
 ghost use lib.Dec.{leb, ltb, eqb};
 ghost use mathlib.Core.Logic.{_⊎_};
-ghost use Rattle.writer.specs.Parts.{Lent, Bodied, Counts};
-ghost use Rattle.writer.specs.Ranges.{clockFine, rangeFine, lostOf, badOf, bytesOf, somethingLost, rowsFine};
-ghost use Rattle.writer.specs.Puts.{countOf};
+ghost use Rattle.writer.specs.Parts.{Lent, Counts, bytesOf, somethingLost, frontFine, rowsFine, backFine};
+ghost use Rattle.writer.specs.Puts.{countLent};
 use crate::content;
+use crate::fits;
+use crate::puts;
 use packet::Content;
 use packet::Fields;
 use packet::Sort;
@@ -37,107 +37,60 @@ fn all_inside(xs: &[u8], lo: u8, hi: u8) -> bool
     true
 }
 
-// The numbers of an entry: its digits for answer 25, its number for 27.
-fn entry_fine(answer: u8, e: &[u8]) -> bool
-    requires { ⌜ ((answer ≡ 25) ⊎ (answer ≡ 27)) × (length (now e) ≡ 8) ⌝ }
-    ensures { λ r. ⌜ r ≡ fine answer (rowOf form.Frequencies .each) (fill (rowOf form.Frequencies .each) (now (e .entry))) ⌝ }
+// The first lines, for an answer.
+fn front_fine(answer: u8, c: Content, digits: [u8; 35]) -> bool
+    ensures { λ r. ⌜ r ≡ frontFine answer c digits ⌝ }
 {
-    if answer == 25 {
-        all_inside(&e[2..8], 0, 9)
-    } else {
-        e[0] >= 1
-    }
+    let s = packet::row_of(content::form_for(c));
+    let before = s.before;
+    let front = content::front_of(c, digits);
+    fits::lines_fit(answer, before, &front)
 }
 
-// The same of every entry.
-fn entries_fine(answer: u8, k: usize, body: &[u8]) -> bool
-    requires { ⌜ ((answer ≡ 25) ⊎ (answer ≡ 27)) × (length (now body) ≡ k * 8) ⌝ }
-    ensures { λ r. ⌜ r ≡ fine answer (times k (rowOf form.Frequencies .each)) (fill (times k (rowOf form.Frequencies .each)) (now (body .entry))) ⌝ }
-{
-    let mut from: usize = 0;
-    let mut j: usize = 0;
-    while j < k {
-        let end = from + 8;
-        if !entry_fine(answer, &body[from..end]) {
-            return false;
-        }
-        from += 8;
-        j += 1;
-    }
-    true
-}
-
-// x is lo to hi.
-fn between(x: u8, lo: u8, hi: u8) -> bool
-    ensures { λ r. ⌜ r ≡ (leb lo x && leb x hi) ⌝ }
-{
-    if x < lo {
-        return false;
-    }
-    x <= hi
-}
-
-fn both(a: bool, b: bool) -> bool
-    ensures { λ r. ⌜ r ≡ (a && b) ⌝ }
-{
-    if a { b } else { false }
-}
-
-// A clock's month, day, hour, minute and second, each by itself.
-fn clock_fine(month: u8, day: u8, hour: u8, minute: u8, second: u8) -> bool
-    ensures { λ r. ⌜ r ≡ clockFine month day hour minute second ⌝ }
-{
-    let time = both(between(minute, 0, 59), between(second, 0, 59));
-    let from_hour = both(between(hour, 0, 23), time);
-    let from_day = both(between(day, 1, 31), from_hour);
-    both(between(month, 1, 12), from_day)
-}
-
-// The content's numbers are in their ranges.
-fn range_fine(c: Content) -> bool
-    ensures { λ r. ⌜ r ≡ rangeFine c ⌝ }
-{
-    match c {
-        Content::Raw => true,
-        Content::Frequencies { count: _ } => true,
-        Content::Address { length: _ } => true,
-        Content::Keep { on, period: _ } => between(on, 0, 1),
-        Content::Clock {
-            year: _,
-            month,
-            day,
-            hour,
-            minute,
-            second,
-        } => clock_fine(month, day, hour, minute, second),
-        Content::Reset { change } => between(change, 1, 2),
-        Content::Factory => true,
-        Content::Drill { action } => between(action, 1, 2),
-        Content::Text {
-            kind,
-            set,
-            length: _,
-        } => both(between(kind, 1, 3), between(set, 0, 4)),
-        Content::Command { length: _ } => true,
-        Content::Hold { serial: _ } => true,
-    }
-}
-
-// What is repeated, for an answer: entries are tested, bytes are not.
+// What is repeated: entries are tested, bytes are not.
 fn body_fine(answer: u8, c: Content, body: &[u8]) -> bool
-    requires { ⌜ ((answer ≡ 25) ⊎ (answer ≡ 27)) × Bodied c (now body) × (typeOf (formFor c) ≡ 0 → Lent c (now body)) ⌝ }
-    ensures { λ r. ⌜ r ≡ fine answer (times (countFor c (now (body .entry))) (rowFor c .each)) (fill (times (countFor c (now (body .entry))) (rowFor c .each)) (bodyFor c (now (body .entry)))) ⌝ }
+    requires { ⌜ ((answer ≡ 25) ⊎ (answer ≡ 27)) × (hasEntries (formFor c) ≡ true → Lent c (now body)) ⌝ }
+    ensures { λ r. ⌜ r ≡ rowsFine answer c (now (body .entry)) ⌝ }
 {
-    if packet::type_of(content::form_for(c)) == 0 {
-        entries_fine(answer, content::count_for(c, body.len()), body)
+    let f = content::form_for(c);
+    if packet::has_entries(f) {
+        let s = packet::row_of(f);
+        let z = packet::sizes_of(f);
+        let each = s.each;
+        let k = content::count_for(c, body.len());
+        fits::rows_fit(answer, each, k, z.row, body)
     } else {
         true
     }
 }
 
+// The last lines.
+fn back_fine(answer: u8, c: Content, digits: [u8; 35]) -> bool
+    ensures { λ r. ⌜ r ≡ backFine answer c digits ⌝ }
+{
+    let s = packet::row_of(content::form_for(c));
+    let after = s.after;
+    let back = puts::widened(&digits, 0, 35);
+    fits::lines_fit(answer, after, &back)
+}
+
+// No line of a content is due the answer.
+fn content_fine(answer: u8, c: Content, digits: [u8; 35], body: &[u8]) -> bool
+    requires { ⌜ ((answer ≡ 25) ⊎ (answer ≡ 27)) × (hasEntries (formFor c) ≡ true → Lent c (now body)) ⌝ }
+    ensures { λ r. ⌜ r ≡ (frontFine answer c digits && (rowsFine answer c (now (body .entry)) && backFine answer c digits)) ⌝ }
+{
+    if !front_fine(answer, c, digits) {
+        return false;
+    }
+    if !body_fine(answer, c, body) {
+        return false;
+    }
+    back_fine(answer, c, digits)
+}
+
 // No digit is above 9, in codes, certificate, entries or beside the content.
 fn digits_fine(f: Fields, codes: &[u8], body: &[u8]) -> bool
-    requires { ⌜ Counts f (now codes) (now body) × (typeOf (formFor (f .content)) ≡ 0 → Lent (f .content) (now body)) ⌝ }
+    requires { ⌜ Counts f (now codes) (now body) × (hasEntries (formFor (f .content)) ≡ true → Lent (f .content) (now body)) ⌝ }
     ensures { λ r. ⌜ r ≡ not (digitBad f (now (codes .entry)) (now (body .entry))) ⌝ }
 {
     let c = f.content;
@@ -152,50 +105,20 @@ fn digits_fine(f: Fields, codes: &[u8], body: &[u8]) -> bool
     if !all_inside(&certificate, 0, 9) {
         return false;
     }
-    body_fine(25, c, body)
-}
-
-// How many of the digits beside a content it uses.
-fn digits_used(c: Content) -> usize
-    ensures { λ r. ⌜ (r ≡ digitsBefore c + digitsAfter c) × (r ≤ 35) ⌝ }
-{
-    match c {
-        Content::Raw => 0,
-        Content::Frequencies { count: _ } => 0,
-        Content::Address { length: _ } => 23,
-        Content::Keep { on: _, period: _ } => 0,
-        Content::Clock {
-            year: _,
-            month: _,
-            day: _,
-            hour: _,
-            minute: _,
-            second: _,
-        } => 0,
-        Content::Reset { change: _ } => 6,
-        Content::Factory => 0,
-        Content::Drill { action: _ } => 35,
-        Content::Text {
-            kind: _,
-            set: _,
-            length: _,
-        } => 35,
-        Content::Command { length: _ } => 0,
-        Content::Hold { serial: _ } => 0,
-    }
+    content_fine(25, c, digits, body)
 }
 
 // The other digits are 0: what is not used could not be handed back.
 fn digits_kept(c: Content, digits: [u8; 35]) -> bool
     ensures { λ r. ⌜ r ≡ not (digitsLost c digits) ⌝ }
 {
-    let used = digits_used(c);
+    let used = content::digits_used(c);
     all_inside(&digits[used..35], 0, 0)
 }
 
 // A body for a content that has none.
 fn body_lost(c: Content, lent: usize) -> bool
-    ensures { λ r. ⌜ r ≡ lostOf (rowFor c .sort) lent ⌝ }
+    ensures { λ r. ⌜ r ≡ bodyLost (rowFor c .sort) lent ⌝ }
 {
     let s = packet::row_of(content::form_for(c));
     let sort = s.sort;
@@ -207,80 +130,42 @@ fn body_lost(c: Content, lent: usize) -> bool
     }
 }
 
-// A count of bytes above 255, or not that of what is lent.
-fn bytes_bad(k: usize, lent: usize) -> bool
-    ensures { λ r. ⌜ r ≡ not (leb k 255 && eqb lent (k * 1)) ⌝ }
+// A count above 255, or rows of w numbers that are not all that is lent.
+fn rows_bad(k: usize, w: usize, lent: usize) -> bool
+    requires { ⌜ w ≤ 8 ⌝ }
+    ensures { λ r. ⌜ r ≡ not (leb k 255 && eqb lent (k * w)) ⌝ }
 {
     if k > 255 {
         return true;
     }
-    lent != k
+    lent != k * w
 }
 
 // A count that is wrong for what is lent.
 fn lent_bad(c: Content, lent: usize) -> bool
-    ensures { λ r. ⌜ r ≡ badOf c lent ⌝ }
+    ensures { λ r. ⌜ r ≡ lentBad (rowFor c .sort) (countLent c lent) (need (rowFor c .each)) lent ⌝ }
 {
-    match c {
-        Content::Raw => false,
-        Content::Frequencies { count } => {
-            if count > 255 {
-                return true;
-            }
-            lent != count * 8
-        }
-        Content::Address { length } => bytes_bad(length, lent),
-        Content::Keep { on: _, period: _ } => false,
-        Content::Clock {
-            year: _,
-            month: _,
-            day: _,
-            hour: _,
-            minute: _,
-            second: _,
-        } => false,
-        Content::Reset { change: _ } => false,
-        Content::Factory => false,
-        Content::Drill { action: _ } => false,
-        Content::Text {
-            kind: _,
-            set: _,
-            length,
-        } => bytes_bad(length, lent),
-        Content::Command { length } => bytes_bad(length, lent),
-        Content::Hold { serial: _ } => false,
+    let f = content::form_for(c);
+    let k = content::count_for(c, lent);
+    let z = packet::sizes_of(f);
+    let s = packet::row_of(f);
+    let sort = s.sort;
+    match sort {
+        Sort::Fixed => false,
+        Sort::Counted => rows_bad(k, z.row, lent),
+        Sort::Raw => false,
+        Sort::Unknown => false,
     }
 }
 
-// The bytes of a content (paper 01's column), where a body of so many numbers is lent.
+// The bytes of a content, where a body of so many numbers is lent: those of its lines.
 fn content_bytes(c: Content, lent: usize) -> usize
-    requires { ⌜ (countOf c lent ≤ 2000) ⌝ }
+    requires { ⌜ (countLent c lent ≤ 2000) ⌝ }
     ensures { λ r. ⌜ r ≡ bytesOf c lent ⌝ }
 {
-    match c {
-        Content::Raw => lent,
-        Content::Frequencies { count } => 1 + 5 * count,
-        Content::Address { length } => 13 + length,
-        Content::Keep { on: _, period: _ } => 3,
-        Content::Clock {
-            year: _,
-            month: _,
-            day: _,
-            hour: _,
-            minute: _,
-            second: _,
-        } => 7,
-        Content::Reset { change: _ } => 4,
-        Content::Factory => 1,
-        Content::Drill { action: _ } => 19,
-        Content::Text {
-            kind: _,
-            set: _,
-            length,
-        } => 20 + length,
-        Content::Command { length } => 1 + length,
-        Content::Hold { serial: _ } => 2,
-    }
+    let k = content::count_for(c, lent);
+    let z = packet::sizes_of(content::form_for(c));
+    (z.lead + k * z.each + z.rest) / 8
 }
 
 // n, k, m or t is above 255, or not that of what is lent.
@@ -325,14 +210,11 @@ fn nothing_lost(f: Fields, body: &[u8]) -> bool
 }
 
 // Every number is in its range, and the day is one that its month has.
-fn numbers_fine(c: Content, body: &[u8]) -> bool
-    requires { ⌜ Bodied c (now body) × (typeOf (formFor c) ≡ 0 → Lent c (now body)) ⌝ }
-    ensures { λ r. ⌜ r ≡ ((rangeFine c && rowsFine 27 c (now (body .entry))) && not (noSuchDay c)) ⌝ }
+fn numbers_fine(c: Content, digits: [u8; 35], body: &[u8]) -> bool
+    requires { ⌜ (hasEntries (formFor c) ≡ true → Lent c (now body)) ⌝ }
+    ensures { λ r. ⌜ r ≡ ((frontFine 27 c digits && (rowsFine 27 c (now (body .entry)) && backFine 27 c digits)) && not (noSuchDay c)) ⌝ }
 {
-    if !range_fine(c) {
-        return false;
-    }
-    if !body_fine(27, c, body) {
+    if !content_fine(27, c, digits, body) {
         return false;
     }
     !packet::no_such_day(c)
@@ -340,19 +222,20 @@ fn numbers_fine(c: Content, body: &[u8]) -> bool
 
 // All that answer 27 asks.
 fn content_taken(f: Fields, codes: &[u8], body: &[u8]) -> bool
-    requires { ⌜ Counts f (now codes) (now body) × (typeOf (formFor (f .content)) ≡ 0 → Lent (f .content) (now body)) ⌝ }
+    requires { ⌜ Counts f (now codes) (now body) × (hasEntries (formFor (f .content)) ≡ true → Lent (f .content) (now body)) ⌝ }
     ensures { λ r. ⌜ r ≡ not (notTaken f (now (codes .entry)) (now (body .entry))) ⌝ }
 {
     let c = f.content;
+    let digits = f.digits;
     if !nothing_lost(f, body) {
         return false;
     }
-    numbers_fine(c, body)
+    numbers_fine(c, digits, body)
 }
 
 // The size of the packet.
 pub(crate) fn size_of(f: Fields, lent: usize) -> usize
-    requires { ⌜ (f .codes ≤ 255) × (countOf (f .content) lent ≤ 2000) ⌝ }
+    requires { ⌜ (f .codes ≤ 255) × (countLent (f .content) lent ≤ 2000) ⌝ }
     ensures { λ r. ⌜ r ≡ 77 + 12 * f .codes + bytesOf (f .content) lent ⌝ }
 {
     let c = f.content;
@@ -395,7 +278,7 @@ fn rest_answer(f: Fields, codes: &[u8], body: &[u8], room: usize) -> u8
 pub(crate) fn answer(f: Fields, codes: &[u8], body: &[u8], room: usize) -> u8
     ensures { λ r. ⌜ r ≡ writtenAnswer f (now (codes .entry)) (now (body .entry)) room ⌝ }
 {
-    if packet::type_of(packet::form_of(f.kind)) == 31 {
+    if packet::is_unknown(packet::form_of(f.kind)) {
         return 23;
     }
     if counts_bad(f, codes, body) {

@@ -9,7 +9,7 @@ use borrow.Author.Tests.{not-true, not-false}
 use Rattle.laws.specs.Bits.{bits}
 use Rattle.laws.specs.Scan.{all}
 use Rattle.format.specs.Format.{fine, decode, sound}
-use Rattle.reader.proofs.Loops as laws
+use Rattle.packet.proofs.Loops as laws
 use borrow.Author.Needs.{needs}
 use Rattle.reader.proofs.lines.lines_fine.Statement.{statement}
 use Rattle.reader.proofs.lines.lines_fine.Tie as tie

@@ -4,7 +4,7 @@ use Prim.Native.Nat.{_≤_, _-_}
 use lib.ListN.{length, drop, getD, take}
 use native.Mathlib.Omega.{arith}
 use Rattle.laws.specs.Scan.{all}
-use Rattle.reader.proofs.Loops as laws
+use Rattle.packet.proofs.Loops as laws
 use borrow.Author.Needs.{needs}
 use Rattle.reader.proofs.lines.lines_unmet.Statement.{statement}
 use Rattle.reader.proofs.lines.lines_unmet.Tie as tie

@@ -9,16 +9,16 @@ use borrow.Author.Tests.{not-true, not-false}
 use Rattle.laws.specs.Bits.{bits}
 use Rattle.laws.proofs.Cases.{and-yes, and-no}
 use Rattle.format.specs.Format.{fine, decode, times}
-use Rattle.reader.proofs.Loops as laws
+use Rattle.packet.proofs.Loops as laws
 use borrow.Author.Needs.{needs}
 use Rattle.reader.proofs.lines.rows_fine.Statement.{statement}
 use Rattle.reader.proofs.lines.rows_fine.Tie as tie
 
 abbrev Inv-loop : tie.InvT-loop
-Inv-loop k ts n b p s q₀ j₀ q j = (j ≤ n) × (q ≤ p + 100 * j) × (fine k (times n (take (ts .m) (ts .all))) (decode (times n (take (ts .m) (ts .all))) (bits b) p) ≡ fine k (times (n - j) (take (ts .m) (ts .all))) (decode (times (n - j) (take (ts .m) (ts .all))) (bits b) q))
+Inv-loop k ts s n b p q₀ j₀ q j = (j ≤ n) × (q ≤ p + 100 * j) × (fine k (times n (take (ts .m) (ts .all))) (decode (times n (take (ts .m) (ts .all))) (bits b) p) ≡ fine k (times (n - j) (take (ts .m) (ts .all))) (decode (times (n - j) (take (ts .m) (ts .all))) (bits b) q))
 
 abbrev μ-loop : tie.MeasureT-loop
-μ-loop k ts n b p s q₀ j₀ q j = n - j
+μ-loop k ts s n b p q₀ j₀ q j = n - j
 
 lines-unmet-requires : tie.Need-lines-unmet-requires Inv-loop μ-loop
 lines-unmet-requires c κs = search needs
@@ -28,23 +28,20 @@ returns c =
     let a = c .before .before .before .args in
     sym (laws.rows-unmet (a .k) (a .n) (take (a .ts .m) (a .ts .all)) (bits (now (a .b))) (a .p) (sym (c .before .lines-unmet .ensures) ∙ c .if1 .taken))
 
-lines-size-requires : tie.Need-lines-size-requires Inv-loop μ-loop
-lines-size-requires c κs = search needs
-
 loop-holds : tie.Need-loop-holds Inv-loop μ-loop
-loop-holds c = (omega arith, omega arith, rw (sub-zero (c .before .before .before .before .args .n)))
+loop-holds c = (omega arith, omega arith, rw (sub-zero (c .before .before .before .args .n)))
 
 lines-fine-requires : tie.Need-lines-fine-requires Inv-loop μ-loop
-lines-fine-requires c κs = (c .before .before .before .before .before .before .pre .0, c .before .before .before .before .before .before .pre .1, omega arith)
+lines-fine-requires c κs = (c .before .before .before .before .before .pre .0, c .before .before .before .before .before .pre .1, omega arith)
 
 returns-2 : tie.Need-returns-2 Inv-loop μ-loop
 returns-2 c =
-    let a = c .before .before .before .before .before .before .before .before .args in
+    let a = c .before .before .before .before .before .before .before .args in
     let k = c .before .before .before .loop in
-    sym (k .inv .2 ∙ laws.rows-turn (a .k) (a .n) (k .j) (take (a .ts .m) (a .ts .all)) (bits (now (a .b))) (k .q) (c .before .before .before .before .lines-size .result) (omega arith) (c .before .before .before .before .lines-size .ensures .0) ∙ and-no _ (sym (c .before .lines-fine .ensures) ∙ not-true (c .before .lines-fine .result) (c .if2 .taken)))
+    sym (k .inv .2 ∙ laws.rows-turn (a .k) (a .n) (k .j) (take (a .ts .m) (a .ts .all)) (bits (now (a .b))) (k .q) (a .s) (omega arith) (c .before .before .before .before .before .before .before .pre .2) ∙ and-no _ (sym (c .before .lines-fine .ensures) ∙ not-true (c .before .lines-fine .result) (c .if2 .taken)))
 
 add-q : tie.Need-add-q Inv-loop μ-loop
-add-q c = omega (arith, c .before .before .before .before .lines-size .ensures .0)
+add-q c = omega (arith, c .before .before .before .before .before .before .before .pre .3)
 
 add-j : tie.Need-add-j Inv-loop μ-loop
 add-j c = search needs
@@ -54,13 +51,13 @@ loop-less c = search needs
 
 loop-again : tie.Need-loop-again Inv-loop μ-loop
 loop-again c =
-    let a = c .before .before .before .before .before .before .before .before .args in
+    let a = c .before .before .before .before .before .before .before .args in
     let k = c .before .before .before .loop in
-    (omega arith, omega (arith, c .before .before .before .before .lines-size .ensures .0), k .inv .2 ∙ laws.rows-turn (a .k) (a .n) (k .j) (take (a .ts .m) (a .ts .all)) (bits (now (a .b))) (k .q) (c .before .before .before .before .lines-size .result) (omega arith) (c .before .before .before .before .lines-size .ensures .0) ∙ and-yes _ (sym (c .before .lines-fine .ensures) ∙ not-false (c .before .lines-fine .result) (c .if2 .left)))
+    (omega arith, omega (arith, c .before .before .before .before .before .before .before .pre .3), k .inv .2 ∙ laws.rows-turn (a .k) (a .n) (k .j) (take (a .ts .m) (a .ts .all)) (bits (now (a .b))) (k .q) (a .s) (omega arith) (c .before .before .before .before .before .before .before .pre .2) ∙ and-yes _ (sym (c .before .lines-fine .ensures) ∙ not-false (c .before .lines-fine .result) (c .if2 .left)))
 
 returns-3 : tie.Need-returns-3 Inv-loop μ-loop
 returns-3 c =
-    let a = c .before .before .before .before .before .before .args in
+    let a = c .before .before .before .before .before .args in
     let k = c .before .loop in
     sym (k .inv .2 ∙ laws.rows-done (a .k) (a .n) (k .j) (take (a .ts .m) (a .ts .all)) (bits (now (a .b))) (k .q) (omega arith))
 
@@ -72,7 +69,6 @@ rows-fine-spec =
     μ-loop
     lines-unmet-requires
     returns
-    lines-size-requires
     loop-holds
     lines-fine-requires
     returns-2

@@ -6,10 +6,8 @@ use native.Mathlib.Omega.{arith}
 use Rattle.laws.proofs.Cases.{if-no}
 use Rattle.format.specs.Format.{size}
 use Rattle.packet.specs.declared.Form.the-variants as form
-use Rattle.packet.specs.Table.{typeOf}
-use Rattle.packet.specs.Reading.{formIn, partAt, bodyIn, padded}
-use Rattle.packet.proofs.Forms.{same-form}
-use borrow.Author.Tests.{ne-eqb}
+use Rattle.packet.specs.Reading.{formIn, partAt, bodyIn, padded, hasEntries}
+use Rattle.packet.proofs.Contents.{entries-only}
 use Rattle.reader.proofs.Whole as whole
 use borrow.Author.Needs.{needs}
 use Rattle.reader.proofs.parts.entries.Statement.{statement}
@@ -18,8 +16,8 @@ use Rattle.reader.proofs.parts.entries.Tie as tie
 form-requires : tie.Need-form-requires
 form-requires c κs = search needs
 
-type-of-requires : tie.Need-type-of-requires
-type-of-requires c κs = search needs
+has-entries-requires : tie.Need-has-entries-requires
+has-entries-requires c κs = search needs
 
 codes-count-requires : tie.Need-codes-count-requires
 codes-count-requires c κs = search needs
@@ -46,21 +44,21 @@ returns : tie.Need-returns
 unfolding bodyIn partAt size
 returns c =
     let b = now (c .before .before .before .before .before .before .before .args .b) in
-    let e : formIn b ≡ form.Frequencies = same-form (formIn b) form.Frequencies (sym (c .before .before .before .before .type-of .ensures ∙ ap typeOf (c .before .before .before .before .before .form .ensures)) ∙ c .before .before .before .if1 .taken) in
+    let e : formIn b ≡ form.Frequencies = entries-only (formIn b) (sym (c .before .before .before .before .has-entries .ensures ∙ ap hasEntries (c .before .before .before .before .before .form .ensures)) ∙ c .before .before .before .if1 .taken) in
     c .entries-in .ensures ∙ rw (e, c .before .count .ensures, c .before .before .codes-count .ensures .0)
 
 returns-2 : tie.Need-returns-2
 returns-2 c =
     let b = now (c .before .before .before .before .before .args .b) in
-    let e : c .before .before .type-of .result ≡ typeOf (formIn b) = c .before .before .type-of .ensures ∙ ap typeOf (c .before .before .before .form .ensures) in
-    c .zeros272 .ensures ∙ sym (ap (padded 272) (if-no (bodyIn b) [] (ne-eqb (typeOf (formIn b)) 0 (λ h. c .before .if1 .left (e ∙ h)))))
+    let e : c .before .before .has-entries .result ≡ hasEntries (formIn b) = c .before .before .has-entries .ensures ∙ ap hasEntries (c .before .before .before .form .ensures) in
+    c .zeros272 .ensures ∙ sym (ap (padded 272) (if-no (bodyIn b) [] (sym e ∙ c .before .if1 .left)))
 
 pub entries-spec : {M : Type 1} → statement M
 entries-spec =
     tie.close
     (tie.spec
     form-requires
-    type-of-requires
+    has-entries-requires
     codes-count-requires
     count-requires
     mul-entries-in

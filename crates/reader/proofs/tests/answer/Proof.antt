@@ -1,7 +1,7 @@
 -- `reader::tests::answer` meets its contract: each way out has its law in Whole. Assumes nothing.
 use mathlib.Core.Path.{sym, ap, _∙_}
 use denote.Ref.{now}
-use Rattle.packet.specs.Table.{typeOf}
+use Rattle.packet.specs.Reading.{isUnknown}
 use Rattle.reader.proofs.Whole as whole
 use borrow.Author.Needs.{needs}
 use Rattle.reader.proofs.tests.answer.Statement.{statement}
@@ -16,11 +16,11 @@ returns c = whole.says-20 (now (c .before .before .before .args .b)) (sym (c .be
 form-requires : tie.Need-form-requires
 form-requires c κs = search needs
 
-type-of-requires : tie.Need-type-of-requires
-type-of-requires c κs = search needs
+is-unknown-requires : tie.Need-is-unknown-requires
+is-unknown-requires c κs = search needs
 
 returns-2 : tie.Need-returns-2
-returns-2 c = whole.says-23 (now (c .before .before .before .before .before .before .args .b)) (sym (c .before .before .before .before .size-bad .ensures) ∙ c .before .before .before .if1 .left) (sym (c .before .type-of .ensures ∙ ap typeOf (c .before .before .form .ensures)) ∙ c .if2 .taken)
+returns-2 c = whole.says-23 (now (c .before .before .before .before .before .before .args .b)) (sym (c .before .before .before .before .size-bad .ensures) ∙ c .before .before .before .if1 .left) (sym (c .before .is-unknown .ensures ∙ ap isUnknown (c .before .before .form .ensures)) ∙ c .if2 .taken)
 
 length-bad-requires : tie.Need-length-bad-requires
 length-bad-requires c κs = whole.sized (now (c .before .before .before .before .before .before .args .b)) (sym (c .before .before .before .before .size-bad .ensures) ∙ c .before .before .before .if1 .left) .most
@@ -28,7 +28,7 @@ length-bad-requires c κs = whole.sized (now (c .before .before .before .before 
 returns-3 : tie.Need-returns-3
 returns-3 c =
     whole.says-26 (now (c .before .before .before .before .before .before .before .before .args .b)) (sym (c .before .before .before .before .before .before .size-bad .ensures) ∙ c .before .before .before .before .before .if1 .left)
-    (λ h. c .before .before .if2 .left (c .before .before .before .type-of .ensures ∙ ap typeOf (c .before .before .before .before .form .ensures) ∙ h))
+    (sym (c .before .before .before .is-unknown .ensures ∙ ap isUnknown (c .before .before .before .before .form .ensures)) ∙ c .before .before .if2 .left)
     (sym (c .before .length-bad .ensures) ∙ c .if3 .taken)
 
 lines-answer-requires : tie.Need-lines-answer-requires
@@ -37,7 +37,7 @@ lines-answer-requires c κs = (sym (c .before .before .before .before .before .b
 returns-4 : tie.Need-returns-4
 returns-4 c =
     whole.then-lines (now (c .before .before .before .before .before .before .before .before .before .args .b)) (sym (c .before .before .before .before .before .before .before .size-bad .ensures) ∙ c .before .before .before .before .before .before .if1 .left)
-    (λ h. c .before .before .before .if2 .left (c .before .before .before .before .type-of .ensures ∙ ap typeOf (c .before .before .before .before .before .form .ensures) ∙ h))
+    (sym (c .before .before .before .before .is-unknown .ensures ∙ ap isUnknown (c .before .before .before .before .before .form .ensures)) ∙ c .before .before .before .if2 .left)
     (sym (c .before .before .length-bad .ensures) ∙ c .before .if3 .left) _ (c .lines-answer .ensures)
 
 pub answer-spec : {M : Type 1} → statement M
@@ -47,7 +47,7 @@ answer-spec =
     size-bad-requires
     returns
     form-requires
-    type-of-requires
+    is-unknown-requires
     returns-2
     length-bad-requires
     returns-3

@@ -23,7 +23,7 @@ rows-fine-requires : tie.Need-rows-fine-requires
 unfolding all size
 rows-fine-requires c κs =
     let s = c .before .code-lines .ensures in
-    (s .few, ap (all sound) (s .lines), omega (arith, ap size (s .lines)), omega arith, omega arith)
+    (s .few, ap (all sound) (s .lines), sym (ap size (s .lines)), omega arith, omega arith, omega arith)
 
 returns : tie.Need-returns
 returns c =

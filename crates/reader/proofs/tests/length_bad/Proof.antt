@@ -16,29 +16,37 @@ count-requires c κs = search needs
 content-size-requires : tie.Need-content-size-requires
 content-size-requires c κs = search needs
 
-lead-of-requires : tie.Need-lead-of-requires
-lead-of-requires c κs = search needs
-
-each-of-requires : tie.Need-each-of-requires
-each-of-requires c κs = search needs
+sizes-of-requires : tie.Need-sizes-of-requires
+sizes-of-requires c κs = search needs
 
 mul-result : tie.Need-mul-result
-mul-result c = let k : c .before .before .before .count .result < 256 = rw (c .before .before .before .count .ensures) (whole.count-small (now (c .before .before .before .before .before .before .args .b)) (c .before .before .before .before .before .before .pre)) in omega (arith, whole.row-fits (c .before .before .before .count .result) (c .each-of .result) k (c .each-of .ensures .1))
+mul-result c =
+    let z = c .before .sizes-of .result in
+    let k : c .before .before .before .count .result < 256 = rw (c .before .before .before .count .ensures) (whole.count-small (now (c .before .before .before .before .before .before .args .b)) (c .before .before .before .before .before .before .pre)) in
+    omega (arith, whole.row-fits (c .before .before .before .count .result) (z .each) k (whole.sizes (c .before .before .before .before .form .result) z (c .before .sizes-of .ensures) .each-most))
 
 add-result : tie.Need-add-result
-add-result c = let k : c .before .before .before .count .result < 256 = rw (c .before .before .before .count .ensures) (whole.count-small (now (c .before .before .before .before .before .before .args .b)) (c .before .before .before .before .before .before .pre)) in omega (arith, whole.row-fits (c .before .before .before .count .result) (c .each-of .result) k (c .each-of .ensures .1), c .before .lead-of .ensures .1)
-
-rest-of-requires : tie.Need-rest-of-requires
-rest-of-requires c κs = search needs
+add-result c =
+    let z = c .before .before .sizes-of .result in
+    let y = whole.sizes (c .before .before .before .before .before .form .result) z (c .before .before .sizes-of .ensures) in
+    let k : c .before .before .before .before .count .result < 256 = rw (c .before .before .before .before .count .ensures) (whole.count-small (now (c .before .before .before .before .before .before .before .args .b)) (c .before .before .before .before .before .before .before .pre)) in
+    omega (arith, whole.row-fits (c .before .before .before .before .count .result) (z .each) k (y .each-most), y .lead-most)
 
 add-result-2 : tie.Need-add-result-2
-add-result-2 c = let k : c .before .before .before .before .count .result < 256 = rw (c .before .before .before .before .count .ensures) (whole.count-small (now (c .before .before .before .before .before .before .before .args .b)) (c .before .before .before .before .before .before .before .pre)) in omega (arith, whole.row-fits (c .before .before .before .before .count .result) (c .before .each-of .result) k (c .before .each-of .ensures .1), c .before .before .lead-of .ensures .1, c .rest-of .ensures .1)
+add-result-2 c =
+    let z = c .before .before .before .sizes-of .result in
+    let y = whole.sizes (c .before .before .before .before .before .before .form .result) z (c .before .before .before .sizes-of .ensures) in
+    let k : c .before .before .before .before .before .count .result < 256 = rw (c .before .before .before .before .before .count .ensures) (whole.count-small (now (c .before .before .before .before .before .before .before .before .args .b)) (c .before .before .before .before .before .before .before .before .pre)) in
+    omega (arith, whole.row-fits (c .before .before .before .before .before .count .result) (z .each) k (y .each-most), y .lead-most, y .rest-most)
 
 mul-result-2 : tie.Need-mul-result-2
-mul-result-2 c = omega (arith, c .before .before .before .content-size .ensures)
+mul-result-2 c = omega (arith, c .before .before .before .before .content-size .ensures)
 
 returns : tie.Need-returns
-returns c = whole.length-at (now (c .before .before .before .before .before .before .before .args .b)) (c .before .before .before .before .before .form .result) (c .before .before .before .before .count .result) (c .before .before .before .content-size .result) (c .before .before .lead-of .result) (c .before .each-of .result) (c .rest-of .result) (c .before .before .before .before .before .form .ensures) (c .before .before .before .before .count .ensures) (c .before .before .before .content-size .ensures) (c .before .before .lead-of .ensures .0) (c .before .each-of .ensures .0) (c .rest-of .ensures .0)
+returns c =
+    let z = c .before .before .before .sizes-of .result in
+    let y = whole.sizes (c .before .before .before .before .before .before .form .result) z (c .before .before .before .sizes-of .ensures) in
+    whole.length-at (now (c .before .before .before .before .before .before .before .before .args .b)) (c .before .before .before .before .before .before .form .result) (c .before .before .before .before .before .count .result) (c .before .before .before .before .content-size .result) (z .lead) (z .each) (z .rest) (c .before .before .before .before .before .before .form .ensures) (c .before .before .before .before .before .count .ensures) (c .before .before .before .before .content-size .ensures) (y .lead) (y .each) (y .rest)
 
 pub length-bad-spec : {M : Type 1} → statement M
 length-bad-spec =
@@ -47,11 +55,9 @@ length-bad-spec =
     form-requires
     count-requires
     content-size-requires
-    lead-of-requires
-    each-of-requires
+    sizes-of-requires
     mul-result
     add-result
-    rest-of-requires
     add-result-2
     mul-result-2
     returns)

@@ -1,21 +1,19 @@
 -- `writer::content::front_of` meets its contract. Assumes nothing.
+use native.Mathlib.Omega.{arith}
 use Rattle.writer.proofs.Front.{fronted}
+use Rattle.writer.proofs.Contents.{numbers-fit}
 use borrow.Author.Needs.{needs}
 use Rattle.writer.proofs.content.front_of.Statement.{statement}
 use Rattle.writer.proofs.content.front_of.Tie as tie
 
-numbers-of-requires : tie.Need-numbers-of-requires
-numbers-of-requires c κs = search needs
-
-numbers-in-requires : tie.Need-numbers-in-requires
-numbers-in-requires c κs = search needs
+lay-requires : tie.Need-lay-requires
+lay-requires c κs = search needs
 
 with-digits-requires : tie.Need-with-digits-requires
-with-digits-requires c κs = search needs
+with-digits-requires c κs = omega (arith, c .before .lay .ensures .many, numbers-fit (c .before .before .args .c) .2)
 
 returns : tie.Need-returns
-returns c = fronted _ _ _ _ _ (c .before .before .numbers-of .ensures) (c .before .numbers-in .ensures .0) (c .with-digits .ensures)
+returns c = fronted _ _ _ _ _ (c .before .before .lay .ensures .numbers) (c .before .before .lay .ensures .many) (c .with-digits .ensures)
 
 pub front-of-spec : {M : Type 1} → statement M
-front-of-spec =
-    tie.close (tie.spec numbers-of-requires numbers-in-requires with-digits-requires returns)
+front-of-spec = tie.close (tie.spec lay-requires with-digits-requires returns)

@@ -8,7 +8,8 @@ use Rattle.packet.specs.Table.{rowOf}
 use Rattle.packet.specs.Content.{formFor}
 use Rattle.packet.specs.Writing.{rowFor}
 use Rattle.writer.specs.Parts.{backBits}
-use Rattle.writer.proofs.Contents.{small, back-fill}
+use Rattle.packet.proofs.Good.{good}
+use Rattle.writer.proofs.Contents.{back-fill}
 use Rattle.writer.proofs.Shapes.{can-put, have-put}
 use borrow.Author.Needs.{needs}
 use Rattle.writer.proofs.content.put_back.Statement.{statement}
@@ -32,10 +33,10 @@ slice-aggregate-put-lines c = search needs
 put-lines-requires : tie.Need-put-lines-requires
 put-lines-requires c κs =
     let w : Listed (c .before .before .before .before .before .row-of .result .after) (rowFor (c .before .before .before .before .before .before .before .before .args .c) .after) = subst (λ (f : Form). Listed (c .before .before .before .before .before .row-of .result .after) (rowOf f .after)) (c .before .before .before .before .before .before .form-for .ensures) (c .before .before .before .before .before .row-of .ensures .last) in
-    let z = small (formFor (c .before .before .before .before .before .before .before .before .args .c)) in
-    let n = z .after-need in
+    let z = good (formFor (c .before .before .before .before .before .before .before .before .args .c)) in
+    let n = z .last in
     let l = c .before .before .widened .ensures .1 in
-    can-put _ _ w (z .after-sound) _ _ (omega arith) (omega arith) (omega (arith, c .before .before .before .before .before .before .before .before .pre))
+    can-put _ _ w (z .after) _ _ (omega arith) (omega arith) (omega (arith, c .before .before .before .before .before .before .before .before .pre))
 
 same-length : tie.Need-same-length
 same-length c = search needs

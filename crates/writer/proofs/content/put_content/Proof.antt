@@ -1,12 +1,11 @@
 -- `writer::content::put_content` meets its contract. Assumes nothing.
-use mathlib.Core.Path.{_≡_, _∙_, subst}
+use mathlib.Core.Path.{_≡_, subst}
 use Prim.Native.Nat.{ℕ}
 use native.Mathlib.Omega.{arith}
 use lib.ListN.{length}
 use Rattle.packet.specs.Content.{countFor}
 use Rattle.writer.specs.Puts.{After}
 use Rattle.writer.specs.Parts.{frontBits, frontSize}
-use Rattle.writer.proofs.Contents.{count-same}
 use Rattle.writer.proofs.Whole.{content-put, bodied, front-small, body-small}
 use borrow.Author.Needs.{needs}
 use Rattle.writer.proofs.content.put_content.Statement.{statement}
@@ -17,7 +16,7 @@ count-for-requires c κs = search needs
 
 put-front-requires : tie.Need-put-front-requires
 put-front-requires c κs =
-    let e = c .before .count-for .ensures ∙ count-same (c .before .before .before .before .args .c) (c .before .before .before .before .args .body .now) in
+    let e = c .before .count-for .ensures in
     (omega (arith, c .before .before .before .before .pre .0 .few), omega (arith, c .before .before .before .before .pre .1))
 
 put-body-requires : tie.Need-put-body-requires
@@ -34,7 +33,7 @@ returns : tie.Need-returns
 returns c =
     let x = c .before .before .before .before .before .before .before .before .before .before .before .before .before .before .before .args in
     let d : length (x .digits) ≡ 35 = search needs in
-    let e : c .before .before .before .before .before .before .before .before .before .before .before .before .count-for .result ≡ countFor (x .c) (x .body .now) = c .before .before .before .before .before .before .before .before .before .before .before .before .count-for .ensures ∙ count-same (x .c) (x .body .now) in
+    let e : c .before .before .before .before .before .before .before .before .before .before .before .before .count-for .result ≡ countFor (x .c) (x .body .now) = c .before .before .before .before .before .before .before .before .before .before .before .before .count-for .ensures in
     let a : After (x .out .now) (c .before .before .before .before .before .before .before .before .before .before .put-front .last .0) (x .p) (frontBits (x .c) (x .digits) (countFor (x .c) (x .body .now))) (c .before .before .before .before .before .before .before .before .before .before .put-front .result) (frontSize (x .c) (countFor (x .c) (x .body .now))) =
     subst (λ (k : ℕ). After (x .out .now) (c .before .before .before .before .before .before .before .before .before .before .put-front .last .0) (x .p) (frontBits (x .c) (x .digits) k) (c .before .before .before .before .before .before .before .before .before .before .put-front .result) (frontSize (x .c) k)) e (c .before .before .before .before .before .before .before .before .before .before .put-front .ensures) in
     content-put (x .c) (x .digits) (x .body .now) d (bodied (x .c) (x .body .now) (c .before .before .before .before .before .before .before .before .before .before .before .before .before .before .before .pre .0)) _ _ _ _ _ _ _ _ a (c .before .before .before .before .before .before .put-body .ensures) (c .before .before .put-back .ensures)

@@ -13,7 +13,8 @@ use Rattle.packet.specs.Writing.{rowFor, frontFor}
 use Rattle.writer.specs.Puts.{After}
 use Rattle.writer.specs.Parts.{frontBits, frontSize}
 use Rattle.writer.proofs.Rows.{encode-size}
-use Rattle.writer.proofs.Contents.{small, numbers-fit, front-fill, length-front}
+use Rattle.packet.proofs.Good.{good}
+use Rattle.writer.proofs.Contents.{numbers-fit, front-fill, length-front}
 use Rattle.writer.proofs.Shapes.{can-put, have-put, then-put}
 use borrow.Author.Needs.{needs}
 use Rattle.writer.proofs.content.put_front.Statement.{statement}
@@ -34,15 +35,15 @@ slice-aggregate-put-lines c = search needs
 put-lines-requires : tie.Need-put-lines-requires
 put-lines-requires c κs =
     let w : Listed (c .before .before .before .before .row-of .result .before) (rowFor (c .before .before .before .before .before .before .before .args .c) .before) = subst (λ (f : Form). Listed (c .before .before .before .before .row-of .result .before) (rowOf f .before)) (c .before .before .before .before .before .form-for .ensures) (c .before .before .before .before .row-of .ensures .first) in
-    let z = small (formFor (c .before .before .before .before .before .before .before .args .c)) in
+    let z = good (formFor (c .before .before .before .before .before .before .before .args .c)) in
     let n = numbers-fit (c .before .before .before .before .before .before .before .args .c) in
     let l = c .before .before .front-of .ensures .long in
-    can-put _ _ w (z .before-sound) _ _ (omega (arith, n .1, n .2)) (omega arith) (omega (arith, c .before .before .before .before .before .before .before .pre .1))
+    can-put _ _ w (z .before) _ _ (omega (arith, n .1, n .2)) (omega arith) (omega (arith, c .before .before .before .before .before .before .before .pre .1))
 
 put-count-requires : tie.Need-put-count-requires
 put-count-requires c κs =
     let w : Listed (c .before .before .before .before .before .before .before .before .row-of .result .before) (rowFor (c .before .before .before .before .before .before .before .before .before .before .before .args .c) .before) = subst (λ (f : Form). Listed (c .before .before .before .before .before .before .before .before .row-of .result .before) (rowOf f .before)) (c .before .before .before .before .before .before .before .before .before .form-for .ensures) (c .before .before .before .before .before .before .before .before .row-of .ensures .first) in
-    (c .before .before .before .before .before .before .before .before .before .before .before .pre .0, omega (arith, c .before .before .before .put-lines .ensures .place, ap size (w .lines), small (formFor (c .before .before .before .before .before .before .before .before .before .before .before .args .c)) .before-size, c .before .before .before .before .before .before .before .before .before .before .before .pre .1))
+    (c .before .before .before .before .before .before .before .before .before .before .before .pre .0, omega (arith, c .before .before .before .put-lines .ensures .place, ap size (w .lines), good (formFor (c .before .before .before .before .before .before .before .before .before .before .before .args .c)) .first, c .before .before .before .before .before .before .before .before .before .before .before .pre .1))
 
 same-length : tie.Need-same-length
 same-length c = search needs

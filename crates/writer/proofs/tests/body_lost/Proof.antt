@@ -3,7 +3,7 @@ use mathlib.Core.Path.{sym, ap, _∙_}
 use Rattle.packet.specs.declared.Form.{Form}
 use Rattle.packet.specs.declared.Sort.{Sort}
 use Rattle.packet.specs.Table.{rowOf}
-use Rattle.writer.specs.Ranges.{lostOf}
+use Rattle.packet.specs.Writing.{bodyLost}
 use borrow.Author.Needs.{needs}
 use Rattle.writer.proofs.tests.body_lost.Statement.{statement}
 use Rattle.writer.proofs.tests.body_lost.Tie as tie
@@ -27,16 +27,16 @@ enum-told-4 : tie.Need-enum-told-4
 enum-told-4 c = search needs
 
 returns : tie.Need-returns
-returns c = sym (ap (λ (s : Sort). lostOf s (c .before .before .before .before .args .lent)) (sym (c .before .before .row-of .ensures .same ∙ ap (λ (f : Form). rowOf f .sort) (c .before .before .before .form-for .ensures)) ∙ c .enum-told .given .1))
+returns c = sym (ap (λ (s : Sort). bodyLost s (c .before .before .before .before .args .lent)) (sym (c .before .before .row-of .ensures .same ∙ ap (λ (f : Form). rowOf f .sort) (c .before .before .before .form-for .ensures)) ∙ c .enum-told .given .1))
 
 returns-2 : tie.Need-returns-2
-returns-2 c = sym (ap (λ (s : Sort). lostOf s (c .before .before .before .before .args .lent)) (sym (c .before .before .row-of .ensures .same ∙ ap (λ (f : Form). rowOf f .sort) (c .before .before .before .form-for .ensures)) ∙ c .enum-told2 .given .1))
+returns-2 c = sym (ap (λ (s : Sort). bodyLost s (c .before .before .before .before .args .lent)) (sym (c .before .before .row-of .ensures .same ∙ ap (λ (f : Form). rowOf f .sort) (c .before .before .before .form-for .ensures)) ∙ c .enum-told2 .given .1))
 
 returns-3 : tie.Need-returns-3
-returns-3 c = sym (ap (λ (s : Sort). lostOf s (c .before .before .before .before .args .lent)) (sym (c .before .before .row-of .ensures .same ∙ ap (λ (f : Form). rowOf f .sort) (c .before .before .before .form-for .ensures)) ∙ c .enum-told3 .given .1))
+returns-3 c = sym (ap (λ (s : Sort). bodyLost s (c .before .before .before .before .args .lent)) (sym (c .before .before .row-of .ensures .same ∙ ap (λ (f : Form). rowOf f .sort) (c .before .before .before .form-for .ensures)) ∙ c .enum-told3 .given .1))
 
 returns-4 : tie.Need-returns-4
-returns-4 c = sym (ap (λ (s : Sort). lostOf s (c .before .before .before .before .args .lent)) (sym (c .before .before .row-of .ensures .same ∙ ap (λ (f : Form). rowOf f .sort) (c .before .before .before .form-for .ensures)) ∙ c .enum-told4 .given .1))
+returns-4 c = sym (ap (λ (s : Sort). bodyLost s (c .before .before .before .before .args .lent)) (sym (c .before .before .row-of .ensures .same ∙ ap (λ (f : Form). rowOf f .sort) (c .before .before .before .form-for .ensures)) ∙ c .enum-told4 .given .1))
 
 pub body-lost-spec : {M : Type 1} → statement M
 body-lost-spec =

@@ -49,8 +49,8 @@ returns-3 c =
     no-certificate (x .f) (x .codes .now) (x .body .now) (c .before .before .before .before .before .before .before .before .before .before .before .before .pre .0) d lc ls (sym (c .before .before .before .before .before .before .all-inside .ensures) ∙ not-false (c .before .before .before .before .before .before .all-inside .result) (c .before .before .before .before .before .if1 .left))
     (sym (c .before .before .before .before .all-inside2 .ensures) ∙ not-false (c .before .before .before .before .all-inside2 .result) (c .before .before .before .if2 .left)) (sym (c .before .all-inside3 .ensures) ∙ not-true (c .before .all-inside3 .result) (c .if3 .taken))
 
-body-fine-requires : tie.Need-body-fine-requires
-body-fine-requires c κs = (inl refl, c .before .before .before .before .before .before .before .before .before .before .before .before .pre .0 .bodied, c .before .before .before .before .before .before .before .before .before .before .before .before .pre .1)
+content-fine-requires : tie.Need-content-fine-requires
+content-fine-requires c κs = (inl refl, c .before .before .before .before .before .before .before .before .before .before .before .before .pre .1)
 
 returns-4 : tie.Need-returns-4
 returns-4 c =
@@ -58,7 +58,7 @@ returns-4 c =
     let d : length (x .f .digits) ≡ 35 = search (needs, c .before .before .before .before .before .before .before .before .before .before .before .before .before .good) in
     let lc : length (x .f .certificate) ≡ 12 = search (needs, c .before .before .before .before .before .before .before .before .before .before .before .before .before .good) in
     let ls : length (x .f .signature) ≡ 64 = search (needs, c .before .before .before .before .before .before .before .before .before .before .before .before .before .good) in
-    c .body-fine .ensures
+    c .content-fine .ensures
     ∙ by-entries (x .f) (x .codes .now) (x .body .now) (c .before .before .before .before .before .before .before .before .before .before .before .before .before .pre .0) d lc ls (sym (c .before .before .before .before .before .before .before .all-inside .ensures) ∙ not-false (c .before .before .before .before .before .before .before .all-inside .result) (c .before .before .before .before .before .before .if1 .left))
     (sym (c .before .before .before .before .before .all-inside2 .ensures) ∙ not-false (c .before .before .before .before .before .all-inside2 .result) (c .before .before .before .before .if2 .left)) (sym (c .before .before .all-inside3 .ensures) ∙ not-false (c .before .before .all-inside3 .result) (c .before .if3 .left))
 
@@ -74,5 +74,5 @@ digits-fine-spec =
     slice-aggregate-all-inside-2
     all-inside-requires-3
     returns-3
-    body-fine-requires
+    content-fine-requires
     returns-4)

@@ -4,8 +4,8 @@ use mathlib.Core.Bool.{not}
 use borrow.Author.Tests.{not-true, not-false}
 use Rattle.packet.specs.Table.{formOf, typeOf}
 use Rattle.packet.specs.Content.{formFor}
-use Rattle.packet.specs.Writing.{rowFor, digitsLost}
-use Rattle.writer.proofs.Taken.{lost-is, other-type, body-lost, digits-lost, by-codes}
+use Rattle.packet.specs.Writing.{digitsLost}
+use Rattle.writer.proofs.Taken.{other-type, body-lost, digits-lost, by-codes}
 use borrow.Author.Needs.{needs}
 use Rattle.writer.proofs.tests.nothing_lost.Statement.{statement}
 use Rattle.writer.proofs.tests.nothing_lost.Tie as tie
@@ -34,7 +34,7 @@ returns-2 : tie.Need-returns-2
 returns-2 c =
     let f = c .before .before .before .before .before .before .before .before .before .args .f in
     let t : typeOf (formOf (f .kind)) ≡ typeOf (formFor (f .content)) = sym (c .before .before .before .before .before .type-of .ensures ∙ ap typeOf (c .before .before .before .before .before .before .form-of .ensures)) ∙ c .before .before .if1 .left ∙ c .before .before .before .type-of2 .ensures ∙ ap typeOf (c .before .before .before .before .form-for .ensures) in
-    body-lost f (c .before .before .before .before .before .before .before .before .before .args .body .now) t (sym (c .before .body-lost .ensures ∙ lost-is (rowFor (f .content) .sort) (c .before .before .before .before .before .before .before .before .before .args .body .now)) ∙ c .if2 .taken)
+    body-lost f (c .before .before .before .before .before .before .before .before .before .args .body .now) t (sym (c .before .body-lost .ensures) ∙ c .if2 .taken)
 
 digits-kept-requires : tie.Need-digits-kept-requires
 digits-kept-requires c κs = search needs
@@ -43,7 +43,7 @@ returns-3 : tie.Need-returns-3
 returns-3 c =
     let f = c .before .before .before .before .before .before .before .before .before .before .before .args .f in
     let t : typeOf (formOf (f .kind)) ≡ typeOf (formFor (f .content)) = sym (c .before .before .before .before .before .before .before .type-of .ensures ∙ ap typeOf (c .before .before .before .before .before .before .before .before .form-of .ensures)) ∙ c .before .before .before .before .if1 .left ∙ c .before .before .before .before .before .type-of2 .ensures ∙ ap typeOf (c .before .before .before .before .before .before .form-for .ensures) in
-    let b = sym (c .before .before .before .body-lost .ensures ∙ lost-is (rowFor (f .content) .sort) (c .before .before .before .before .before .before .before .before .before .before .before .args .body .now)) ∙ c .before .before .if2 .left in
+    let b = sym (c .before .before .before .body-lost .ensures) ∙ c .before .before .if2 .left in
     digits-lost f (c .before .before .before .before .before .before .before .before .before .before .before .args .body .now) t b (not-false (digitsLost (f .content) (f .digits)) (sym (c .before .digits-kept .ensures) ∙ not-true (c .before .digits-kept .result) (c .if3 .taken)))
 
 codes-lost-requires : tie.Need-codes-lost-requires
@@ -53,7 +53,7 @@ returns-4 : tie.Need-returns-4
 returns-4 c =
     let f = c .before .before .before .before .before .before .before .before .before .before .before .before .args .f in
     let t : typeOf (formOf (f .kind)) ≡ typeOf (formFor (f .content)) = sym (c .before .before .before .before .before .before .before .before .type-of .ensures ∙ ap typeOf (c .before .before .before .before .before .before .before .before .before .form-of .ensures)) ∙ c .before .before .before .before .before .if1 .left ∙ c .before .before .before .before .before .before .type-of2 .ensures ∙ ap typeOf (c .before .before .before .before .before .before .before .form-for .ensures) in
-    let b = sym (c .before .before .before .before .body-lost .ensures ∙ lost-is (rowFor (f .content) .sort) (c .before .before .before .before .before .before .before .before .before .before .before .before .args .body .now)) ∙ c .before .before .before .if2 .left in
+    let b = sym (c .before .before .before .before .body-lost .ensures) ∙ c .before .before .before .if2 .left in
     ap not (c .codes-lost .ensures) ∙ by-codes f (c .before .before .before .before .before .before .before .before .before .before .before .before .args .body .now) t b (not-true (digitsLost (f .content) (f .digits)) (sym (c .before .before .digits-kept .ensures) ∙ not-false (c .before .before .digits-kept .result) (c .before .if3 .left)))
 
 pub nothing-lost-spec : {M : Type 1} → statement M

@@ -1,7 +1,7 @@
 -- `writer::tests::rest_answer` meets its contract: each way out has its law in Answers. Assumes nothing.
 use lib.ListN.{length}
 use Prim.Native.Nat.{_+_, _*_, _≤_}
-use Rattle.writer.specs.Ranges.{bytesOf}
+use Rattle.writer.specs.Parts.{bytesOf}
 use mathlib.Core.Path.{sym, ap, _∙_}
 use native.Mathlib.Omega.{arith}
 use lib.Dec.{ltb}

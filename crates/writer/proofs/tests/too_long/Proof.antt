@@ -1,6 +1,6 @@
 -- `writer::tests::too_long` meets its contract. Assumes nothing.
 use Prim.Native.Nat.{_+_, _*_, _<_}
-use Rattle.writer.specs.Ranges.{bytesOf}
+use Rattle.writer.specs.Parts.{bytesOf}
 use mathlib.Core.Path.{sym, ap}
 use native.Mathlib.Omega.{arith}
 use lib.Dec.{ltb}

@@ -1,0 +1,52 @@
+-- The bits of a content, part by part, and that they are the bytes of paper 01's column. Assumes nothing.
+use mathlib.Core.Path.{_≡_, refl, ap, _∙_}
+use mathlib.Core.List.{_++_}
+use Prim.Native.Nat.{ℕ, _+_, _*_}
+use native.Mathlib.Omega.{arith}
+use Rattle.format.specs.Format.{times, size, need}
+use Rattle.format.proofs.Tables.{size-append, size-times}
+use Rattle.packet.specs.declared.Sort.{Sort}
+use Rattle.packet.specs.declared.Sort.the-variants as sort
+use Rattle.packet.specs.declared.Form.{Form}
+use Rattle.packet.specs.declared.Form.the-variants.{Frequencies, Address, Keep, Clock, Reset, Factory, Drill, Text, Command, Hold, Raw, Unknown}
+use Rattle.packet.specs.Table.{contentBytes, Row, rowOf, countLine, contentLines}
+use Rattle.packet.specs.Reading.{countSize, partAt, sizesOf}
+
+pub count-size : (s : Sort) (k : ℕ) → size (countLine s k) ≡ countSize s
+unfolding size
+count-size sort.Fixed k = refl
+count-size sort.Counted k = refl
+count-size sort.Raw k = refl
+count-size sort.Unknown k = refl
+
+pub content-size : (r : Row) (k : ℕ) → size (contentLines r k) ≡ partAt r + k * size (r .each) + size (r .after)
+unfolding contentLines partAt
+content-size r k =
+    let L = countLine (r .sort) k in
+    omega (arith, size-append (r .before) (L ++ (times k (r .each) ++ r .after)), size-append L (times k (r .each) ++ r .after), size-append (times k (r .each)) (r .after), size-times k (r .each), count-size (r .sort) k, count-size (r .sort) 0)
+
+-- The lines of a content whose row stands k times have as many bits as the column of paper 01's table says in bytes. The reader's 26 and the writer's size
+-- are said by the column; what is read and written goes by the lines.
+pub column : (f : Form) (k : ℕ) → size (contentLines (rowOf f) k) ≡ 8 * contentBytes f k
+unfolding size partAt
+column Frequencies k = content-size (rowOf Frequencies) k ∙ omega arith
+column Address k = content-size (rowOf Address) k ∙ omega arith
+column Keep k = content-size (rowOf Keep) k ∙ omega arith
+column Clock k = content-size (rowOf Clock) k ∙ omega arith
+column Reset k = content-size (rowOf Reset) k ∙ omega arith
+column Factory k = content-size (rowOf Factory) k ∙ omega arith
+column Drill k = content-size (rowOf Drill) k ∙ omega arith
+column Text k = content-size (rowOf Text) k ∙ omega arith
+column Command k = content-size (rowOf Command) k ∙ omega arith
+column Hold k = content-size (rowOf Hold) k ∙ omega arith
+column Raw k = content-size (rowOf Raw) k ∙ omega arith
+column Unknown k = content-size (rowOf Unknown) k ∙ omega arith
+
+-- a row's first lines and its count
+pub lead-is : (r : Row) → partAt r ≡ size (r .before) + countSize (r .sort)
+unfolding partAt
+lead-is r = ap (λ (n : ℕ). size (r .before) + n) (count-size (r .sort) 0)
+
+pub sizes-are : (f : Form) (l e r a b c : ℕ) → l ≡ partAt (rowOf f) → e ≡ size (rowOf f .each) → r ≡ size (rowOf f .after) → a ≡ need (rowOf f .before) → b ≡ need (rowOf f .each) → c ≡ need (rowOf f .after)
+    → record { lead = l; each = e; rest = r; first = a; row = b; last = c } ≡ sizesOf f
+sizes-are f l e r a b c p q s t u v = rw (p, q, s, t, u, v)

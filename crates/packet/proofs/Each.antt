@@ -1,0 +1,32 @@
+-- The list of kinds, and that what a computed test finds of all of them holds of each. Assumes nothing.
+use mathlib.Core.Path.{_≡_}
+use mathlib.Core.Bool.{Bool, true}
+use mathlib.Core.List.{List, [], _∷_}
+use Prim.Native.Nat.{ℕ, _<_}
+use native.Mathlib.Omega.{arith}
+use lib.ListN.{getD}
+use Rattle.laws.specs.Scan.{all}
+use Rattle.laws.proofs.Elements.{all-at}
+use Rattle.packet.specs.declared.Form.{Form}
+use Rattle.packet.specs.declared.Form.the-variants.{Frequencies, Address, Keep, Clock, Reset, Factory, Drill, Text, Command, Hold, Raw, Unknown}
+
+abbrev pub kinds : List Form
+kinds = Frequencies ∷ Address ∷ Keep ∷ Clock ∷ Reset ∷ Factory ∷ Drill ∷ Text ∷ Command ∷ Hold ∷ Raw ∷ Unknown ∷ []
+
+module _ (P : Form → Bool) (h : all P kinds ≡ true) where
+  at : (i : ℕ) → i < 12 → P (getD kinds i Raw) ≡ true
+  at i l = all-at P kinds i Raw h l
+
+  pub each-kind : (f : Form) → P f ≡ true
+  each-kind Frequencies = at 0 (omega arith)
+  each-kind Address = at 1 (omega arith)
+  each-kind Keep = at 2 (omega arith)
+  each-kind Clock = at 3 (omega arith)
+  each-kind Reset = at 4 (omega arith)
+  each-kind Factory = at 5 (omega arith)
+  each-kind Drill = at 6 (omega arith)
+  each-kind Text = at 7 (omega arith)
+  each-kind Command = at 8 (omega arith)
+  each-kind Hold = at 9 (omega arith)
+  each-kind Raw = at 10 (omega arith)
+  each-kind Unknown = at 11 (omega arith)

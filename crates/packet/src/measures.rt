@@ -1,0 +1,66 @@
+// How many bits a kind's lines have, and how many numbers of their own.
+ghost use mathlib.Core.Path.{_≡_};
+ghost use mathlib.Core.Bool.{true};
+ghost use Prim.Native.Nat.{_*_, _≤_};
+ghost use lib.ListN.{take};
+ghost use Rattle.laws.specs.Scan.{all};
+ghost use Rattle.format.specs.Format.{size, need, own, sound};
+ghost use Rattle.packet.specs.Reading.{countSize};
+use crate::Lines;
+use crate::Sort;
+use format::Line;
+
+// Bits, and numbers.
+pub(crate) struct Measure {
+    pub(crate) bits: usize,
+    pub(crate) numbers: usize,
+}
+
+fn width(t: Line) -> usize
+    requires { ⌜ sound t ≡ true ⌝ }
+    ensures { λ r. ⌜ (r ≡ t .n * t .w) × (r ≤ 2048) ⌝ }
+{
+    t.n * t.w
+}
+
+fn taken(t: Line) -> usize
+    requires { ⌜ sound t ≡ true ⌝ }
+    ensures { λ r. ⌜ (r ≡ own t) × (r ≤ 64) ⌝ }
+{
+    let free = t.free;
+    if free { t.n } else { 0 }
+}
+
+// Those of lines.
+pub(crate) fn of_lines(ts: Lines) -> Measure
+    requires { ⌜ (ts .m ≤ 6) × (all sound (take (ts .m) (ts .all)) ≡ true) ⌝ }
+    ensures { λ r. ⌜ (r .bits ≡ size (take (ts .m) (ts .all))) × (r .numbers ≡ need (take (ts .m) (ts .all))) × (r .bits ≤ 12288) ⌝ }
+{
+    let m = ts.m;
+    let all = ts.all;
+    let mut q: usize = 0;
+    let mut i: usize = 0;
+    let mut j: usize = 0;
+    while j < m {
+        let t = all[j];
+        q += width(t);
+        i += taken(t);
+        j += 1;
+    }
+    Measure {
+        bits: q,
+        numbers: i,
+    }
+}
+
+// The bits of the count, where there is one.
+pub(crate) fn count_bits(sort: Sort) -> usize
+    ensures { λ r. ⌜ r ≡ countSize sort ⌝ }
+{
+    match sort {
+        Sort::Fixed => 0,
+        Sort::Counted => 8,
+        Sort::Raw => 0,
+        Sort::Unknown => 0,
+    }
+}

@@ -1,0 +1,79 @@
+// The lines of a table against numbers: whether any is due an answer.
+ghost use mathlib.Core.Path.{_≡_};
+ghost use mathlib.Core.Bool.{true};
+ghost use Prim.Native.Nat.{_+_, _≤_};
+ghost use lib.ListN.{length, take, drop};
+ghost use Rattle.format.specs.Format.{own, inside, lineOk, fine, fill, times, sound};
+ghost use Rattle.writer.specs.Puts.{valueOf, Puttable, Rows};
+use crate::puts;
+use format::Line;
+use packet::Lines;
+
+// The numbers of a line are in its range.
+fn in_range(t: Line, xs: &[u32], i: usize) -> bool
+    requires { ⌜ (sound t ≡ true) × (i + own t ≤ length (now xs)) × (length (now xs) ≤ 1000) ⌝ }
+    ensures { λ r. ⌜ r ≡ inside (t .lo) (t .hi) (valueOf t (drop i (now (xs .entry)))) ⌝ }
+{
+    let n = t.n;
+    let lo = t.lo;
+    let hi = t.hi;
+    let mut j: usize = 0;
+    while j < n {
+        let x = puts::number_of(t, xs, i + j);
+        if x < lo {
+            return false;
+        }
+        if x > hi {
+            return false;
+        }
+        j += 1;
+    }
+    true
+}
+
+// A line is no concern of the answer a, or its numbers are as it says.
+fn line_fits(a: u8, t: Line, xs: &[u32], i: usize) -> bool
+    requires { ⌜ (sound t ≡ true) × (i + own t ≤ length (now xs)) × (length (now xs) ≤ 1000) ⌝ }
+    ensures { λ r. ⌜ r ≡ lineOk a t (valueOf t (drop i (now (xs .entry)))) ⌝ }
+{
+    let o = t.other;
+    if o == a { in_range(t, xs, i) } else { true }
+}
+
+// No line with the numbers xs is due the answer a.
+pub(crate) fn lines_fit(a: u8, ts: Lines, xs: &[u32]) -> bool
+    requires { ⌜ Puttable ts (now xs) 0 ⌝ }
+    ensures { λ r. ⌜ r ≡ fine a (take (ts .m) (ts .all)) (fill (take (ts .m) (ts .all)) (now (xs .entry))) ⌝ }
+{
+    let m = ts.m;
+    let all = ts.all;
+    let mut i: usize = 0;
+    let mut j: usize = 0;
+    while j < m {
+        let t = all[j];
+        if !line_fits(a, t, xs, i) {
+            return false;
+        }
+        i += puts::taken(t);
+        j += 1;
+    }
+    true
+}
+
+// The same of rows of lines, n of them, each with w of the numbers xs.
+pub(crate) fn rows_fit(a: u8, ts: Lines, n: usize, w: usize, xs: &[u8]) -> bool
+    requires { ⌜ Rows ts n w (now xs) 0 ⌝ }
+    ensures { λ r. ⌜ r ≡ fine a (times n (take (ts .m) (ts .all))) (fill (times n (take (ts .m) (ts .all))) (now (xs .entry))) ⌝ }
+{
+    let mut i: usize = 0;
+    let mut j: usize = 0;
+    while j < n {
+        let row = puts::widened(xs, i, w);
+        if !lines_fit(a, ts, &row) {
+            return false;
+        }
+        i += w;
+        j += 1;
+    }
+    true
+}
