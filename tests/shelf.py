@@ -16,7 +16,7 @@ import time
 ROOT = os.path.join(os.path.dirname(os.path.abspath(__file__)), "..")
 sys.path.insert(0, os.path.dirname(os.path.abspath(__file__)))
 from compare import shelves  # noqa: E402  (it stands beside this file)
-from model import on_air, shelf as model  # noqa: E402  (so does this)
+from model import on_air, receiver, shelf as model  # noqa: E402  (so does this)
 
 KEEP, SHELF = (os.path.join(ROOT, "run", name) for name in ("keep", "shelf"))
 seed = random.Random(6)
@@ -31,6 +31,14 @@ def heard():
     """A record, and the air bytes that it comes from."""
     one = shelves.one(seed)
     return one, on_air.on_air(model.packet(one), one[0], one[1], 819)[2]
+
+
+def noise(behind):
+    """No byte, or some that make no frame with what is behind them: right behind a frame even noise may be mended into one (paper 02, K10)."""
+    while True:
+        some = bytes(seed.randrange(256) for _ in range(seed.randrange(3)))
+        if not some or receiver.taken("".join(format(b, "08b") for b in (some + behind)[:13]), 0, True) is None:
+            return some
 
 
 def damaged(shelf):
@@ -107,7 +115,8 @@ def keeping():
         fresh()
         many = [heard() for _ in range(before + 25)]
         put(b"".join(one for one, _ in many[:before]))
-        ran = keep(b"".join(air + bytes(seed.randrange(256) for _ in range(seed.randrange(3))) for _, air in many[before:]))
+        airs = [air for _, air in many[before:]]
+        ran = keep(b"".join(air + noise(behind) for air, behind in zip(airs, airs[1:] + [bytes(13)])))
         same("kept", ran.returncode, 0)
         agrees("kept", b"".join(one for one, _ in many))
         ran_shelf = subprocess.run([SHELF], stdout=subprocess.PIPE)
