@@ -58,7 +58,7 @@ module _ (f : List ℕ) where
       ap₂ (λ (a b : List ℕ). a ++ b) (block-number (wordAt f 0) A)
       (ap₂ (λ (a b : List ℕ). a ++ b) (block-number (wordAt f 16) B) (ap₂ (λ (a b : List ℕ). a ++ b) (block-number (wordAt f 32) C) (block-number (wordAt f 48) D))) in
       let n =
-      fields (number (wordAt f 0) A) (number (wordAt f 16) B) (number (wordAt f 32) C) (number (wordAt f 48) D)
+      fields 26 (number (wordAt f 0) A) (number (wordAt f 16) B) (number (wordAt f 32) C) (number (wordAt f 48) D)
       (number-lt (wordAt f 0) A (small 0)) (number-lt (wordAt f 16) B (small 16)) (number-lt (wordAt f 32) C (small 32)) (number-lt (wordAt f 48) D (small 48)) (frameBits f) e in
       ap₂ _&&_ (ap (λ (x : ℕ). isValid x A) (n .0) ∙ number-valid (wordAt f 0) A (small 0))
       (ap₂ _&&_ (ap (λ (x : ℕ). isValid x B) (n .1) ∙ number-valid (wordAt f 16) B (small 16))

@@ -38,16 +38,16 @@ pub frame-blocks : (l : List ℕ) → isFrame l ≡ true → AllFour (isValid (a
 unfolding isFrame
 frame-blocks l v = all-four (isValid (at l 0 26) A) (isValid (at l 26 26) B) (isValid (at l 52 26) C) (isValid (at l 78 26) D) v
 
--- four numbers of 26 bits
-pub fields : (a b c d : ℕ) → a < 2 ^ 26 → b < 2 ^ 26 → c < 2 ^ 26 → d < 2 ^ 26 → (l : List ℕ) → l ≡ bitsOf 26 a ++ (bitsOf 26 b ++ (bitsOf 26 c ++ bitsOf 26 d))
-    → (at l 0 26 ≡ a) × (at l 26 26 ≡ b) × (at l 52 26 ≡ c) × (at l 78 26 ≡ d)
-fields a b c d ha hb hc hd l e =
-    let t = bitsOf 26 c ++ bitsOf 26 d in
-    let s = bitsOf 26 b ++ t in (
-      ap (λ (x : List ℕ). at x 0 26) e ∙ at-front 26 a s ha,
-      ap (λ (x : List ℕ). at x 26 26) e ∙ at-behind 26 a s 0 26 ∙ at-front 26 b t hb,
-      ap (λ (x : List ℕ). at x 52 26) e ∙ at-behind 26 a s 26 26 ∙ at-behind 26 b t 0 26 ∙ at-front 26 c (bitsOf 26 d) hc,
-      ap (λ (x : List ℕ). at x 78 26) e ∙ at-behind 26 a s 52 26 ∙ at-behind 26 b t 26 26 ∙ at-behind 26 c (bitsOf 26 d) 0 26 ∙ at-bits 26 d hd,
+-- four numbers of w bits each, one behind the other
+pub fields : (w a b c d : ℕ) → a < 2 ^ w → b < 2 ^ w → c < 2 ^ w → d < 2 ^ w → (l : List ℕ) → l ≡ bitsOf w a ++ (bitsOf w b ++ (bitsOf w c ++ bitsOf w d))
+    → (at l 0 w ≡ a) × (at l (w + 0) w ≡ b) × (at l (w + (w + 0)) w ≡ c) × (at l (w + (w + (w + 0))) w ≡ d)
+fields w a b c d ha hb hc hd l e =
+    let t = bitsOf w c ++ bitsOf w d in
+    let s = bitsOf w b ++ t in (
+      ap (λ (x : List ℕ). at x 0 w) e ∙ at-front w a s ha,
+      ap (λ (x : List ℕ). at x (w + 0) w) e ∙ at-behind w a s 0 w ∙ at-front w b t hb,
+      ap (λ (x : List ℕ). at x (w + (w + 0)) w) e ∙ at-behind w a s (w + 0) w ∙ at-behind w b t 0 w ∙ at-front w c (bitsOf w d) hc,
+      ap (λ (x : List ℕ). at x (w + (w + (w + 0))) w) e ∙ at-behind w a s (w + (w + 0)) w ∙ at-behind w b t (w + 0) w ∙ at-behind w c (bitsOf w d) 0 w ∙ at-bits w d hd,
     )
 
 -- 104 bits, block by block
@@ -204,7 +204,7 @@ module _ (l : List ℕ) (v : canMend l ≡ true) where
   pub mended-fields : (at (mendedBits l) 0 26 ≡ blockAt l 0 A .block) × (at (mendedBits l) 26 26 ≡ blockAt l 26 B .block) × (at (mendedBits l) 52 26 ≡ blockAt l 52 C .block) × (at (mendedBits l) 78 26 ≡ blockAt l 78 D .block)
   unfolding mendedBits
   mended-fields =
-      fields (blockAt l 0 A .block) (blockAt l 26 B .block) (blockAt l 52 C .block) (blockAt l 78 D .block)
+      fields 26 (blockAt l 0 A .block) (blockAt l 26 B .block) (blockAt l 52 C .block) (blockAt l 78 D .block)
       (valid-lt (blockAt l 0 A .block) A (ma .valid)) (valid-lt (blockAt l 26 B .block) B (mb .valid)) (valid-lt (blockAt l 52 C .block) C (mc .valid)) (valid-lt (blockAt l 78 D .block) D (md .valid))
       (mendedBits l) refl
 

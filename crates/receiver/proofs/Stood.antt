@@ -12,8 +12,8 @@ use borrow.Author.Tests.{eqb-true, eq-eqb}
 use Rattle.laws.specs.Bits.{at, bitsOf, bits}
 use Rattle.laws.proofs.Cases.{and-right}
 use Rattle.laws.proofs.Elements.{by-test}
-use Rattle.laws.proofs.Bits.{Under, at-below, bits-at, at-bits, bits-bytes, under-append, under-spread, under-take, under-drop}
-use Rattle.laws.proofs.ByteFields.{at-parts, at-front, at-behind}
+use Rattle.laws.proofs.Bits.{Under, at-below, bits-at, bits-bytes, under-append, under-spread, under-take, under-drop}
+use Rattle.laws.proofs.ByteFields.{at-parts}
 use Rattle.block.specs.declared.Letter.{Letter}
 use Rattle.block.specs.declared.Letter.the-variants.{A, B, C, D}
 use Rattle.block.specs.Block.{offsetOf, checkWord, carries, isValid}
@@ -27,7 +27,7 @@ use Rattle.receiver.specs.Calls.{Call, allFrames, allCounts, delivered, 
 use Rattle.receiver.specs.Standing.{differs, Damaged, StandIn}
 use Rattle.receiver.proofs.Rule.{over}
 use Rattle.receiver.proofs.Sound.{informationBits, information-64, mended-long, under-mended}
-use Rattle.receiver.proofs.Starts.{frame-blocks, in-blocks, by-numbers, four-same, mended-frame, mended-damaged}
+use Rattle.receiver.proofs.Starts.{frame-blocks, fields, in-blocks, by-numbers, four-same, mended-frame, mended-damaged}
 use Rattle.receiver.proofs.Cutting.{cutting-any, takes-all}
 
 -- a valid block's bits are those of its information word and no others
@@ -61,25 +61,12 @@ module _ (l : List ℕ) (h : 104 ≤ length l) (u : Under 2 l) where
       (under-append 2 (take 16 (drop 52 l)) (take 16 (drop 78 l)) (under-take 2 16 (drop 52 l) (under-drop 2 52 l u)) (under-take 2 16 (drop 78 l) (under-drop 2 78 l u)))))
       (omega (arith, information-64 l h))
 
-  -- each word of what is handed out is the word of its block
-  words : (a b c d : ℕ) → a < 2 ^ 16 → b < 2 ^ 16 → c < 2 ^ 16 → d < 2 ^ 16
-      → (m : List ℕ) → m ≡ bitsOf 16 a ++ (bitsOf 16 b ++ (bitsOf 16 c ++ bitsOf 16 d))
-      → (at m 0 16 ≡ a) × (at m 16 16 ≡ b) × (at m 32 16 ≡ c) × (at m 48 16 ≡ d)
-  words a b c d ha hb hc hd m e =
-      let t = bitsOf 16 c ++ bitsOf 16 d in
-      let s = bitsOf 16 b ++ t in (
-        ap (λ (x : List ℕ). at x 0 16) e ∙ at-front 16 a s ha,
-        ap (λ (x : List ℕ). at x 16 16) e ∙ at-behind 16 a s 0 16 ∙ at-front 16 b t hb,
-        ap (λ (x : List ℕ). at x 32 16) e ∙ at-behind 16 a s 16 16 ∙ at-behind 16 b t 0 16 ∙ at-front 16 c (bitsOf 16 d) hc,
-        ap (λ (x : List ℕ). at x 48 16) e ∙ at-behind 16 a s 32 16 ∙ at-behind 16 b t 16 16 ∙ at-behind 16 c (bitsOf 16 d) 0 16 ∙ at-bits 16 d hd,
-      )
-
   -- the first 104 bits are those of the frame that is handed out, as a sender makes them
   pub frame-there : isFrame l ≡ true → take 104 l ≡ frameBits (information l)
   unfolding isFrame frameBits
   frame-there v =
       let t = frame-blocks l v in
-      let w = words (at l 0 16) (at l 26 16) (at l 52 16) (at l 78 16) (small 0) (small 26) (small 52) (small 78) (bits (information l)) (in-bits ∙ four-words) in
+      let w = fields 16 (at l 0 16) (at l 26 16) (at l 52 16) (at l 78 16) (small 0) (small 26) (small 52) (small 78) (bits (information l)) (in-bits ∙ four-words) in
       in-blocks l
       ∙ ap₂ (λ (a b : List ℕ). a ++ b) (block-there l 0 A (omega arith) u (t .0) ∙ ap (λ (x : ℕ). blockBits x A) (sym (w .0)))
       (ap₂ (λ (a b : List ℕ). a ++ b) (block-there l 26 B (omega arith) u (t .1) ∙ ap (λ (x : ℕ). blockBits x B) (sym (w .1)))
