@@ -1,13 +1,13 @@
 """Packets, fields and records to try reader and writers with, drawn at random. The same seed draws the same record."""
 import random
 
-from model.packet import DIGITS, NAMES, Fields
+from model.packet import DIGITS, NAMES, ONLY_READ, Fields
 from model.writer import COUNTED, write
 
 from . import records
 
-SIZES = {"raw": 0, "frequencies": 1, "address": 13, "keep": 3, "clock": 7, "reset": 4, "factory": 1, "drill": 19, "text": 20, "command": 1,
-         "hold": 2}
+SIZES = {"raw": 0, "frequencies": 1, "address": 13, "keep": 3, "clock": 7, "reset": 4, "factory": 1, "drill": 19, "text": 20, "hold": 2}
+WRITTEN = [t for t in NAMES if t not in ONLY_READ]
 YEARS = (0, 1, 4, 100, 400, 1900, 2000, 2023, 2024, 2100, 65532, 65535)
 EDGES = (0, 1, 2, 3, 4, 5, 12, 13, 23, 24, 28, 29, 30, 31, 32, 59, 60, 127, 128, 254, 255)
 
@@ -52,10 +52,18 @@ def fields(rng, t):
     return f, digits(rng, 23 * n), body
 
 
+def packet_of(f, codes, body):
+    """The packet, empty where there is none; one of a type that is only read is that of another raw type, renamed."""
+    p = bytearray(write(f._replace(type=4) if f.type in ONLY_READ else f, codes, body, 250)[1])
+    if p:
+        p[0] = f.type << 3 | p[0] & 7
+    return p
+
+
 def packet(rng):
-    answer, p = write(*fields(rng, rng.choice(list(NAMES))), 250)
-    assert answer == 0
-    return bytearray(p)
+    p = packet_of(*fields(rng, rng.choice(list(NAMES))))
+    assert p
+    return p
 
 
 # Damage to a packet.
@@ -213,7 +221,7 @@ CHANGES = (other_type, other_count, other_numbers, other_digit, other_byte, othe
 
 def written_record(rng):
     """Fields that make a packet, with up to two things changed, and room for it, or nearly."""
-    some = fields(rng, rng.choice(list(NAMES)))
+    some = fields(rng, rng.choice(WRITTEN))
     size = len(write(*some, 250)[1])
     for _ in range(rng.choice((0, 1, 1, 1, 2, 2))):
         some = rng.choice(CHANGES)(rng, *some)

@@ -34,14 +34,16 @@ def named(name, record, *lines):
 
 
 def packets():
-    """Each packet that is read is written back; into 76 bytes no packet goes."""
+    """Each packet that is read is written back, but for type 1 with codes and type 16; into 76 bytes no packet goes."""
     for answer, text, given, name in worked.PACKETS:
         data = bytes.fromhex(given)
         _, f, codes, entries, body = read(data)
-        yield named(name, records.reading(data), "read %d" % answer, "text %d" % text)
-        if answer == 0:
-            refused = 27 if f.type == 1 and f.count else 10
-            yield named("into 76 bytes", records.writing(f, codes, entries or list(body), 76), "write %d" % refused)
+        if answer:
+            yield named(name, records.reading(data), "read %d" % answer, "text %d" % text)
+        else:
+            refused = 27 if f.type == 1 and f.count else 23 if f.type == 16 else 0
+            yield named(name, records.reading(data), "read %d" % answer, "text %d" % text, "write %d" % refused)
+            yield named("into 76 bytes", records.writing(f, codes, entries or list(body), 76), "write %d" % (refused or 10))
 
 
 def written():

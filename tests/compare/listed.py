@@ -4,7 +4,7 @@ import random
 from model.packet import NAMES
 from model.writer import COUNTED, write
 
-from .draw import YEARS, content, digits, fields, mended
+from .draw import YEARS, content, digits, fields, mended, packet_of
 from .records import CONTENTS, LONG, reading, sending, writing
 
 
@@ -69,8 +69,8 @@ def sizes(rng):
             f, _, body = fields(rng, t)
             f, codes = f._replace(count=n), digits(rng, 23 * n)
             yield writing(f, codes, body, 250)
-            yield reading(write(f, codes, body, 250)[1])
-    for t in (1, 4, 15, 16):
+            yield reading(bytes(packet_of(f, codes, body)))
+    for t in (1, 4, 15):
         for k in range(130, 180):
             f, codes, _ = fields(rng, t)
             body = [rng.randrange(256) for _ in range(k)]

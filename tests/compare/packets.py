@@ -9,7 +9,7 @@ import collections
 import subprocess
 import sys
 
-from model.packet import NAMES
+from model.packet import NAMES, ONLY_READ
 
 from . import draw, listed, records, runs, smaller
 
@@ -70,11 +70,13 @@ def count(seen, data):
             seen["size read", len(record) - 3] += 1
         if record[:1] == b"W" and lines[0].startswith("write 0"):
             seen["type written", record[1]] += 1
+        if record[:1] == b"W" and record[1] in ONLY_READ:
+            seen["type refused", record[1]] += 1
 
 
 def missing(seen):
     wanted = [(f, a) for f in ANSWERS for a in ANSWERS[f]]
-    wanted += [(what, t) for what in ("type read", "type written") for t in NAMES]
+    wanted += [("type read", t) for t in NAMES] + [("type refused" if t in ONLY_READ else "type written", t) for t in NAMES]
     wanted += [("blocks mended", k) for k in range(5)]
     wanted += [("codes read", n) for n in range(15)] + [("size read", p) for p in (77, 78, 250)]
     return [w for w in wanted if not seen[w]]

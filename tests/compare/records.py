@@ -7,8 +7,8 @@ from model.collector import Collector, Place
 from model.packet import Fields
 from model.receiver import Receiver
 
-CONTENTS = ("raw", "frequencies", "address", "keep", "clock", "reset", "factory", "drill", "text", "command", "hold")
-LONG = {"frequencies": 0, "address": 0, "keep": 1, "clock": 0, "text": 2, "command": 0}  # which number of the content has two bytes
+CONTENTS = ("raw", "frequencies", "address", "keep", "clock", "reset", "factory", "drill", "text", "hold")
+LONG = {"frequencies": 0, "address": 0, "keep": 1, "clock": 0, "text": 2}  # which number of the content has two bytes
 SHORT = {"keep": 1, "clock": 5, "reset": 1, "drill": 1, "text": 2, "hold": 1}  # how many have one
 
 

@@ -4,9 +4,11 @@ import collections
 # content is a name and its numbers; its digits stand beside it, its bytes or entries in the body
 Fields = collections.namedtuple("Fields", "type count content digits time certificate signature")
 
-NAMES = {0: "frequencies", 1: "address", 2: "keep", 3: "clock", 12: "reset", 13: "factory", 14: "drill", 15: "text", 16: "command",
-         21: "hold"}
-NAMES.update((t, "raw") for t in (4, 5, 6, 7, 8, 11, 22, 23, 24))
+NAMES = {0: "frequencies", 1: "address", 2: "keep", 3: "clock", 12: "reset", 13: "factory", 14: "drill", 15: "text", 21: "hold"}
+NAMES.update((t, "raw") for t in (4, 5, 6, 7, 8, 11, 16, 22, 23, 24))
+
+# the fast command, whose licence ended: shelves still hold some, so it is read, and never written (02, K13)
+ONLY_READ = (16,)
 
 # how many digits a content has; 35 is the most
 DIGITS = {"address": 23, "reset": 6, "drill": 35, "text": 35}

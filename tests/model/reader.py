@@ -43,8 +43,6 @@ def fits(name, content):
         return size >= 1 and size == 13 + content[0]
     if name == "text":
         return size >= 20 and size == 20 + content[19]
-    if name == "command":
-        return size >= 1 and size == 1 + content[0]
     return name == "raw" or size == {"keep": 3, "clock": 7, "reset": 4, "factory": 1, "drill": 19, "hold": 2}[name]
 
 
@@ -65,9 +63,6 @@ def opened(w, name, size):
         w.ones(4)
         digits, t = w.digits(35), w.number(8)
         return (name, kind, charset, t), digits, w.octets(t), []
-    if name == "command":
-        k = w.number(8)
-        return (name, k), [], w.octets(k), []
     numbers, digits = fixed(w, name)
     return (name, *numbers), digits, b"", []
 

@@ -1,8 +1,8 @@
 """The packet writer: its tests in their order, then the bits. As decided, it also answers 27 to what could not be read back (digits that the
 content doesn't use, a body for a content that has none), and a raw content has no count of its own."""
-from .packet import DIGITS, NAMES, is_clock
+from .packet import DIGITS, NAMES, ONLY_READ, is_clock
 
-COUNTED = {"frequencies": 8, "address": 1, "text": 1, "command": 1}  # how many numbers of the body make one of the count
+COUNTED = {"frequencies": 8, "address": 1, "text": 1}  # how many numbers of the body make one of the count
 
 
 def wrong_count(fields, codes, body):
@@ -68,8 +68,6 @@ def content_bits(fields, body):
         return "0001" + bits(numbers[0], 4) + digits
     if name == "text":
         return bits(numbers[0], 4) + bits(numbers[1], 4) + digits + bits(numbers[2], 8) + joined(body, 8)
-    if name == "command":
-        return bits(numbers[0], 8) + joined(body, 8)
     if name == "hold":
         return bits(numbers[0], 8) + "11111111"
     return joined(body, 8)
@@ -77,7 +75,7 @@ def content_bits(fields, body):
 
 def write(fields, codes, body, room):
     """The answer and the packet: 23, 26, 25, 27, 20 where it would have over 250 bytes, 10."""
-    if fields.type not in NAMES:
+    if fields.type not in NAMES or fields.type in ONLY_READ:
         return 23, b""
     if wrong_count(fields, codes, body):
         return 26, b""

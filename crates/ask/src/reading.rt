@@ -37,7 +37,6 @@ fn content(c: Content) {
             say::number(set as u64);
             say::number(length as u64);
         }
-        Content::Command { length } => say::one(b"command", length as u64),
         Content::Hold { serial } => say::one(b"hold", serial as u64),
     }
 }

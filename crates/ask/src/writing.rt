@@ -1,5 +1,5 @@
 // W and the fields of a packet: what the writer makes of them.
-// Behind the letter stand, by the index of their first byte: 1 type; 2 count of codes; 4 content, 1 to 10 as below, raw for any other;
+// Behind the letter stand, by the index of their first byte: 1 type; 2 count of codes; 4 content, 1 to 9 as below, raw for any other;
 // 5 a number of two bytes and 7 five of one byte, those of the content; 12 its 35 digits; 47 time; 51 certificate; 63 signature;
 // 127 the length of the memory lent, at most 300; 129 the length of the codes; 131 that of the body; 133 the codes, and behind them the body.
 use crate::input;
@@ -39,10 +39,7 @@ fn content(b: &[u8]) -> Content {
             set: second,
             length: long as usize,
         },
-        9 => Content::Command {
-            length: long as usize,
-        },
-        10 => Content::Hold { serial: first },
+        9 => Content::Hold { serial: first },
         _ => Content::Raw,
     }
 }

@@ -13,7 +13,7 @@ use Rattle.laws.proofs.Cases.{and-both, or-both}
 use Rattle.laws.proofs.Refusals.{not-due}
 use Rattle.format.specs.Format.{size, fine}
 use Rattle.packet.specs.declared.Form.{Form}
-use Rattle.packet.specs.declared.Form.the-variants.{Frequencies, Address, Keep, Clock, Reset, Factory, Drill, Text, Command, Hold, Raw, Unknown}
+use Rattle.packet.specs.declared.Form.the-variants.{Frequencies, Address, Keep, Clock, Reset, Factory, Drill, Text, Hold, Raw, Unknown}
 use Rattle.packet.specs.Table.{formOf, contentBytes, rowOf, countIn, contentLines}
 use Rattle.packet.specs.Content.{noSuchDay}
 use Rattle.packet.specs.Reading.{kindIn, lengthIn, codesIn, formIn, contentAt, contentSize, countOf, tableOf, valuesIn, partAt, contentIn, hasEntries, sizeBad, lengthBad, isUnknown, fieldBad, readAnswer, textAnswer}
@@ -126,7 +126,6 @@ body-in Reset l q m = omega arith
 body-in Factory l q m = omega arith
 body-in Drill l q m = omega arith
 body-in Text l q m = omega arith
-body-in Command l q m = omega arith
 body-in Hold l q m = omega arith
 body-in Raw l q m = omega arith
 body-in Unknown l q m = omega arith

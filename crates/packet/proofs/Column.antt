@@ -8,7 +8,7 @@ use Rattle.format.proofs.Tables.{size-append, size-times}
 use Rattle.packet.specs.declared.Sort.{Sort}
 use Rattle.packet.specs.declared.Sort.the-variants as sort
 use Rattle.packet.specs.declared.Form.{Form}
-use Rattle.packet.specs.declared.Form.the-variants.{Frequencies, Address, Keep, Clock, Reset, Factory, Drill, Text, Command, Hold, Raw, Unknown}
+use Rattle.packet.specs.declared.Form.the-variants.{Frequencies, Address, Keep, Clock, Reset, Factory, Drill, Text, Hold, Raw, Unknown}
 use Rattle.packet.specs.Table.{contentBytes, Row, rowOf, countLine, contentLines}
 use Rattle.packet.specs.Reading.{countSize, partAt, sizesOf}
 
@@ -37,7 +37,6 @@ column Reset k = content-size (rowOf Reset) k ∙ omega arith
 column Factory k = content-size (rowOf Factory) k ∙ omega arith
 column Drill k = content-size (rowOf Drill) k ∙ omega arith
 column Text k = content-size (rowOf Text) k ∙ omega arith
-column Command k = content-size (rowOf Command) k ∙ omega arith
 column Hold k = content-size (rowOf Hold) k ∙ omega arith
 column Raw k = content-size (rowOf Raw) k ∙ omega arith
 column Unknown k = content-size (rowOf Unknown) k ∙ omega arith

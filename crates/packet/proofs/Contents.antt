@@ -6,7 +6,7 @@ use Prim.Native.Nat.{ℕ}
 use lib.ListN.{length}
 use Rattle.format.specs.Format.{octets}
 use Rattle.packet.specs.declared.Form.{Form}
-use Rattle.packet.specs.declared.Form.the-variants.{Frequencies, Address, Keep, Clock, Reset, Factory, Drill, Text, Command, Hold, Raw, Unknown}
+use Rattle.packet.specs.declared.Form.the-variants.{Frequencies, Address, Keep, Clock, Reset, Factory, Drill, Text, Hold, Raw, Unknown}
 use Rattle.packet.specs.declared.Content.{Content}
 use Rattle.packet.specs.declared.Content.the-variants as content
 use Rattle.packet.specs.declared.Sort.the-variants as sort
@@ -25,7 +25,6 @@ content-back (content.Reset change) rest body = refl
 content-back content.Factory rest body = refl
 content-back (content.Drill action) rest body = refl
 content-back (content.Text kind set t) rest body = refl
-content-back (content.Command k) rest body = refl
 content-back (content.Hold serial) rest body = refl
 
 -- it has as many numbers as its kind
@@ -39,7 +38,6 @@ numbers-long (content.Reset change) = refl
 numbers-long content.Factory = refl
 numbers-long (content.Drill action) = refl
 numbers-long (content.Text kind set t) = refl
-numbers-long (content.Command k) = refl
 numbers-long (content.Hold serial) = refl
 
 -- what is repeated: entries, bytes, or nothing
@@ -57,7 +55,6 @@ repeated Reset = nothing refl refl (λ k m. refl)
 repeated Factory = nothing refl refl (λ k m. refl)
 repeated Drill = nothing refl refl (λ k m. refl)
 repeated Text = octet refl refl
-repeated Command = octet refl refl
 repeated Hold = nothing refl refl (λ k m. refl)
 repeated Raw = octet refl refl
 repeated Unknown = nothing refl refl (λ k m. refl)
@@ -76,7 +73,6 @@ content-known c h = absurd (true≢false (sym (ap unknownBy h) ∙ known c))
     known content.Factory = refl
     known (content.Drill action) = refl
     known (content.Text kind set t) = refl
-    known (content.Command k) = refl
     known (content.Hold serial) = refl
 
 -- only frequencies have entries
@@ -89,7 +85,6 @@ entries-only Reset h = absurd (true≢false (sym h))
 entries-only Factory h = absurd (true≢false (sym h))
 entries-only Drill h = absurd (true≢false (sym h))
 entries-only Text h = absurd (true≢false (sym h))
-entries-only Command h = absurd (true≢false (sym h))
 entries-only Hold h = absurd (true≢false (sym h))
 entries-only Raw h = absurd (true≢false (sym h))
 entries-only Unknown h = absurd (true≢false (sym h))

@@ -8,13 +8,13 @@ use lib.ListN.{getD}
 use Rattle.laws.specs.Scan.{all}
 use Rattle.laws.proofs.Elements.{all-at}
 use Rattle.packet.specs.declared.Form.{Form}
-use Rattle.packet.specs.declared.Form.the-variants.{Frequencies, Address, Keep, Clock, Reset, Factory, Drill, Text, Command, Hold, Raw, Unknown}
+use Rattle.packet.specs.declared.Form.the-variants.{Frequencies, Address, Keep, Clock, Reset, Factory, Drill, Text, Hold, Raw, Unknown}
 
 abbrev pub kinds : List Form
-kinds = Frequencies ∷ Address ∷ Keep ∷ Clock ∷ Reset ∷ Factory ∷ Drill ∷ Text ∷ Command ∷ Hold ∷ Raw ∷ Unknown ∷ []
+kinds = Frequencies ∷ Address ∷ Keep ∷ Clock ∷ Reset ∷ Factory ∷ Drill ∷ Text ∷ Hold ∷ Raw ∷ Unknown ∷ []
 
 module _ (P : Form → Bool) (h : all P kinds ≡ true) where
-  at : (i : ℕ) → i < 12 → P (getD kinds i Raw) ≡ true
+  at : (i : ℕ) → i < 11 → P (getD kinds i Raw) ≡ true
   at i l = all-at P kinds i Raw h l
 
   pub each-kind : (f : Form) → P f ≡ true
@@ -26,7 +26,6 @@ module _ (P : Form → Bool) (h : all P kinds ≡ true) where
   each-kind Factory = at 5 (omega arith)
   each-kind Drill = at 6 (omega arith)
   each-kind Text = at 7 (omega arith)
-  each-kind Command = at 8 (omega arith)
-  each-kind Hold = at 9 (omega arith)
-  each-kind Raw = at 10 (omega arith)
-  each-kind Unknown = at 11 (omega arith)
+  each-kind Hold = at 8 (omega arith)
+  each-kind Raw = at 9 (omega arith)
+  each-kind Unknown = at 10 (omega arith)

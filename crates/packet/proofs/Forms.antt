@@ -1,5 +1,5 @@
--- The kinds of the types that no single key names, that a kind's type has that kind, and which types have none. Assumes nothing.
-use mathlib.Core.Bool.{Bool, true, false, not, _&&_}
+-- The kinds of the types that no single key names, that a kind's type has that kind, which types have none, and which are not written. Assumes nothing.
+use mathlib.Core.Bool.{Bool, true, false, not, _&&_, _||_}
 use mathlib.Core.Path.{_≡_, refl, ap, _∙_, sym}
 use Prim.Native.Nat.{ℕ, _<_, _≤_}
 use native.Mathlib.Omega.{arith}
@@ -8,11 +8,12 @@ use borrow.Author.Tests.{le-leb, lt-leb, ne-eqb, ltb-true, ltb-false, not-true}
 use Rattle.laws.specs.Below.{below}
 use Rattle.laws.proofs.Below.{at-each}
 use Rattle.laws.proofs.Cases.{or-no}
-use lib.Dec.{leb, ltb}
+use lib.Dec.{leb, ltb, eqb}
 use Rattle.packet.specs.declared.Form.{Form}
-use Rattle.packet.specs.declared.Form.the-variants.{Frequencies, Address, Keep, Clock, Reset, Factory, Drill, Text, Command, Hold, Raw, Unknown}
-use Rattle.packet.specs.Table.{formOf, typeOf, refusedType}
+use Rattle.packet.specs.declared.Form.the-variants.{Frequencies, Address, Keep, Clock, Reset, Factory, Drill, Text, Hold, Raw, Unknown}
+use Rattle.packet.specs.Table.{formOf, typeOf, refusedType, unwrittenType}
 use Rattle.packet.specs.Reading.{isUnknown}
+use Rattle.packet.specs.Writing.{notWritten}
 
 -- the types that are opened, each by its key
 pub record Other (t : ℕ) : Type 0 where
@@ -62,7 +63,6 @@ form-type Reset = refl
 form-type Factory = refl
 form-type Drill = refl
 form-type Text = refl
-form-type Command = refl
 form-type Hold = refl
 form-type Raw = refl
 form-type Unknown = refl
@@ -78,27 +78,42 @@ below-not a b = go (ltb a b) refl
     go true e = e ∙ sym (ap not (lt-leb b a (ltb-true a b e)))
     go false e = e ∙ sym (ap not (le-leb b a (ltb-false a b e)))
 
--- The kind that is answered 23 is that of types 9, 10, 17 to 20 and 25 or above, and of no other.
-pub refused-types : (t : ℕ) → isUnknown (formOf t) ≡ refusedType t
-unfolding below formOf
-refused-types t =
+-- ---- the types that are answered 23
+abbrev agree : Bool → Bool → Bool
+agree true y = y
+agree false y = not y
+
+-- two tests that agree below 25 and pass from there on are one
+one-test : (x y : ℕ → Bool) → below 25 (λ (n : ℕ). agree (x n) (y n)) ≡ true → ((t : ℕ) → 25 ≤ t → (x t ≡ true) × (y t ≡ true)) → (t : ℕ) → x t ≡ y t
+one-test x y e from-25 t =
     elim (decLt t 25) [
-      | yes h ↦ same (isUnknown (formOf t)) (refusedType t) (at-each 25 (λ (n : ℕ). agree (isUnknown (formOf n)) (refusedType n)) refl t h)
-      | no h ↦ ap isUnknown (sym (above t (other-above t (omega arith)) (omega arith))) ∙ sym (or-no _ (ne-eqb t 9 (λ e. omega arith)) ∙ or-no _ (ne-eqb t 10 (λ e. omega arith)) ∙ or-no _ (and-late (leb 17 t) (lt-leb t 20 (omega arith))) ∙ le-leb 25 t (omega arith))
+      | yes h ↦ same (x t) (y t) (at-each 25 (λ (n : ℕ). agree (x n) (y n)) e t h)
+      | no h ↦ let a = from-25 t (omega arith) in a .0 ∙ sym (a .1)
     ]
   where
-    agree : Bool → Bool → Bool
-    agree true y = y
-    agree false y = not y
-
     same : (x y : Bool) → agree x y ≡ true → x ≡ y
     same true y e = sym e
     same false y e = sym (not-true y e)
 
+unknown-above : (t : ℕ) → 25 ≤ t → isUnknown (formOf t) ≡ true
+unknown-above t h =
+    ap isUnknown
+    (sym (above t record { n0 = λ e. omega arith; n1 = λ e. omega arith; n2 = λ e. omega arith; n3 = λ e. omega arith; n12 = λ e. omega arith; n13 = λ e. omega arith; n14 = λ e. omega arith; n15 = λ e. omega arith; n16 = λ e. omega arith; n21 = λ e. omega arith; n11 = λ e. omega arith } h))
+
+-- the last case of both lists, whatever number their ranges begin with
+listed-above : (k t : ℕ) → 25 ≤ t → (eqb t 9 || (eqb t 10 || ((leb k t && leb t 20) || leb 25 t))) ≡ true
+listed-above k t h = or-no _ (ne-eqb t 9 (λ e. omega arith)) ∙ or-no _ (ne-eqb t 10 (λ e. omega arith)) ∙ or-no _ (and-late (leb k t) (lt-leb t 20 (omega arith))) ∙ le-leb 25 t h
+  where
     and-late : (x : Bool) {y : Bool} → y ≡ false → (x && y) ≡ false
     and-late true e = e
     and-late false e = refl
 
-    other-above : (t : ℕ) → 25 ≤ t → Other t
-    other-above t h =
-        record { n0 = λ e. omega arith; n1 = λ e. omega arith; n2 = λ e. omega arith; n3 = λ e. omega arith; n12 = λ e. omega arith; n13 = λ e. omega arith; n14 = λ e. omega arith; n15 = λ e. omega arith; n16 = λ e. omega arith; n21 = λ e. omega arith; n11 = λ e. omega arith }
+-- The kind that a reader answers 23 is that of types 9, 10, 17 to 20 and 25 or above, and of no other.
+pub refused-types : (t : ℕ) → isUnknown (formOf t) ≡ refusedType t
+unfolding below formOf
+refused-types = one-test (λ (t : ℕ). isUnknown (formOf t)) refusedType refl (λ t h. (unknown-above t h, listed-above 17 t h))
+
+-- The types that a writer answers 23 are these and 16.
+pub unwritten-types : (t : ℕ) → notWritten t ≡ unwrittenType t
+unfolding below formOf
+unwritten-types = one-test notWritten unwrittenType refl (λ t h. (or-no _ (ne-eqb t 16 (λ e. omega arith)) ∙ unknown-above t h, listed-above 16 t h))

@@ -6,7 +6,7 @@ use lib.ListN.{length, getD}
 use lib.Dec.{leb}
 use Rattle.days.specs.Days.{daysIn}
 use Rattle.packet.specs.declared.Form.{Form}
-use Rattle.packet.specs.declared.Form.the-variants.{Frequencies, Address, Keep, Clock, Reset, Factory, Drill, Text, Command, Hold, Raw, Unknown}
+use Rattle.packet.specs.declared.Form.the-variants.{Frequencies, Address, Keep, Clock, Reset, Factory, Drill, Text, Hold, Raw, Unknown}
 use Rattle.packet.specs.declared.Content.{Content}
 use Rattle.packet.specs.declared.Content.the-variants as content
 use Rattle.packet.specs.Table.{rowOf, countBy}
@@ -21,7 +21,6 @@ contentOf Reset xs k = content.Reset (getD xs 0 0)
 contentOf Factory xs k = content.Factory
 contentOf Drill xs k = content.Drill (getD xs 0 0)
 contentOf Text xs k = content.Text (getD xs 0 0) (getD xs 1 0) k
-contentOf Command xs k = content.Command k
 contentOf Hold xs k = content.Hold (getD xs 0 0)
 contentOf Raw xs k = content.Raw
 contentOf Unknown xs k = content.Raw
@@ -43,7 +42,6 @@ partsOf (content.Reset change) = record { kind = Reset; numbers = change ∷ [];
 partsOf content.Factory = record { kind = Factory; numbers = []; count = 0 }
 partsOf (content.Drill action) = record { kind = Drill; numbers = action ∷ []; count = 0 }
 partsOf (content.Text kind set t) = record { kind = Text; numbers = kind ∷ set ∷ []; count = t }
-partsOf (content.Command k) = record { kind = Command; numbers = []; count = k }
 partsOf (content.Hold serial) = record { kind = Hold; numbers = serial ∷ []; count = 0 }
 
 -- its kind
@@ -74,5 +72,4 @@ noSuchDay (content.Reset change) = false
 noSuchDay content.Factory = false
 noSuchDay (content.Drill action) = false
 noSuchDay (content.Text kind set t) = false
-noSuchDay (content.Command k) = false
 noSuchDay (content.Hold serial) = false

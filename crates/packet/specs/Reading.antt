@@ -208,7 +208,7 @@ abbrev pub partBy : ℕ → ℕ → ℕ → List ℕ → List ℕ
 partBy zero from k b = take k (drop from b)
 partBy (suc a) from k b = []
 
--- the address, the text, the command or the raw bytes
+-- the address, the text or the raw bytes
 unfoldable pub bodyOf : List ℕ → List ℕ
 bodyOf b =
     partBy (readAnswer b) (3 + 12 * codesIn b + partAt (rowOf (formIn b)) / 8)

@@ -7,16 +7,16 @@ use Rattle.laws.specs.Bits.{at}
 use Rattle.format.specs.declared.Line.{Line}
 use Rattle.format.specs.Format.{num, only, any, ones, digits, octets, just, times, size}
 use Rattle.packet.specs.declared.Form.{Form}
-use Rattle.packet.specs.declared.Form.the-variants.{Frequencies, Address, Keep, Clock, Reset, Factory, Drill, Text, Command, Hold, Raw, Unknown}
+use Rattle.packet.specs.declared.Form.the-variants.{Frequencies, Address, Keep, Clock, Reset, Factory, Drill, Text, Hold, Raw, Unknown}
 use Rattle.packet.specs.declared.Sort.{Sort}
 use Rattle.packet.specs.declared.Sort.the-variants as sort
 
--- ---- the kinds by type (000, table 2): the opened ones, those carried raw, and the rest
+-- ---- the types (000, table 2), two columns: the kind as which one is read, and whether one that is read is also written
 abbrev pub pick : Bool → Form → Form → Form
 pick true a b = a
 pick false a b = b
 
--- what is opened, what is carried raw, and what is refused (000, table 2; 01, What travels)
+-- what is opened, what is carried raw, and what is refused (000, table 2; 01, What travels); type 16 since the licence ended, for old shelves (02, K13)
 unfoldable pub formOf : ℕ → Form
 formOf t =
     pick (eqb t 0) Frequencies
@@ -27,12 +27,16 @@ formOf t =
     (pick (eqb t 13) Factory
     (pick (eqb t 14) Drill
     (pick (eqb t 15) Text
-    (pick (eqb t 16) Command
+    (pick (eqb t 16) Raw
     (pick (eqb t 21) Hold
     (pick (leb 4 t && leb t 8) Raw
     (pick (eqb t 11) Raw
     (pick (leb 22 t && leb t 24) Raw
     Unknown))))))))))))
+
+-- what is read and no longer written: the fast command, type 16 (02, K13)
+abbrev pub onlyRead : ℕ → Bool
+onlyRead t = eqb t 16
 
 -- a type of each kind, for comparing kinds: the only one, but for Raw and Unknown (000, table 2)
 abbrev pub typeOf : Form → ℕ
@@ -44,14 +48,17 @@ typeOf Reset = 12
 typeOf Factory = 13
 typeOf Drill = 14
 typeOf Text = 15
-typeOf Command = 16
 typeOf Hold = 21
 typeOf Raw = 4
 typeOf Unknown = 31
 
--- the types that a reader and a writer answer 23 (01, Numbers given back); the last of the kinds above is theirs: `packet:Forms.refused-types`
+-- the types that a reader answers 23 (01, Numbers given back); the last of the kinds above is theirs: `packet:Forms.refused-types`
 abbrev pub refusedType : ℕ → Bool
 refusedType t = eqb t 9 || (eqb t 10 || ((leb 17 t && leb t 20) || leb 25 t))
+
+-- and those that a writer does, 16 among them (02, K13): `packet:Forms.unwritten-types`
+abbrev pub unwrittenType : ℕ → Bool
+unwrittenType t = eqb t 9 || (eqb t 10 || ((leb 16 t && leb t 20) || leb 25 t))
 
 -- ---- the column of content bytes (01, Packet), k being the row's k, m or t, and the bytes of a raw content
 abbrev pub contentBytes : Form → ℕ → ℕ
@@ -63,7 +70,6 @@ contentBytes Reset k = 4
 contentBytes Factory k = 1
 contentBytes Drill k = 19
 contentBytes Text k = 20 + k
-contentBytes Command k = 1 + k
 contentBytes Hold k = 2
 contentBytes Raw k = k
 contentBytes Unknown k = 0
@@ -93,7 +99,6 @@ rowOf Reset = fixed (only 2 1 ∷ num 2 1 2 ∷ ones 4 ∷ digits 6 ∷ [])
 rowOf Factory = fixed (only 2 1 ∷ ones 6 ∷ [])
 rowOf Drill = fixed (only 4 1 ∷ num 4 1 2 ∷ ones 4 ∷ digits 35 ∷ [])
 rowOf Text = counted (num 4 1 3 ∷ num 4 0 4 ∷ ones 4 ∷ digits 35 ∷ []) (octets 1 ∷ []) []
-rowOf Command = counted [] (octets 1 ∷ []) []
 rowOf Hold = fixed (any 8 ∷ ones 8 ∷ [])
 rowOf Raw = record { sort = sort.Raw; before = []; each = octets 1 ∷ []; after = [] }
 rowOf Unknown = record { sort = sort.Unknown; before = []; each = []; after = [] }

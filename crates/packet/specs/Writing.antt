@@ -13,7 +13,7 @@ use Rattle.packet.specs.declared.Sort.the-variants as sort
 use Rattle.packet.specs.declared.Content.{Content}
 use Rattle.packet.specs.declared.Fields.{Fields}
 use Rattle.packet.specs.declared.Written.{Written}
-use Rattle.packet.specs.Table.{formOf, typeOf, contentBytes, Row, rowOf, packet}
+use Rattle.packet.specs.Table.{formOf, onlyRead, typeOf, contentBytes, Row, rowOf, packet}
 use Rattle.packet.specs.Content.{formFor, numbersOf, countFor, noSuchDay}
 use Rattle.packet.specs.Reading.{isUnknown}
 
@@ -63,6 +63,10 @@ unfoldable pub bytesFor : Fields → List ℕ → List ℕ → List ℕ
 bytesFor f codes body = bytes (encode (tableFor f body) (valuesFor f codes body))
 
 -- ---- the answer, in the order of paper 01 (Numbers given back, Packet writer)
+-- 23: a type that is only read, or not even that
+abbrev pub notWritten : ℕ → Bool
+notWritten t = onlyRead t || isUnknown (formOf t)
+
 -- 26: n, k, m or t is above 255, or is not that of what is lent; entries have as many numbers as their row
 abbrev pub lentBad : Sort → ℕ → ℕ → ℕ → Bool
 lentBad sort.Fixed k w lent = false
@@ -108,7 +112,7 @@ notTaken f codes body =
 -- the writer's cases
 abbrev pub writeCases : Fields → List ℕ → List ℕ → ℕ → List Case
 writeCases f codes body room =
-    (isUnknown (formOf (f .kind)), 23)
+    (notWritten (f .kind), 23)
     ∷ (countBad f codes body, 26)
     ∷ (digitBad f codes body, 25)
     ∷ (notTaken f codes body, 27)

@@ -8,9 +8,10 @@ ghost use Rattle.packet.specs.Table.{formOf, typeOf, rowOf, code, ending
 ghost use Rattle.packet.specs.Shape.{Listed, Shaped};
 ghost use Rattle.packet.specs.Content.{noSuchDay};
 ghost use Rattle.packet.specs.Reading.{sizesOf, isUnknown, hasEntries};
+ghost use Rattle.packet.specs.Writing.{notWritten};
 use format::Line;
 
-// The kinds of content (000, tables 3 to 6 and 13 to 18); Raw is carried unopened, Unknown refused.
+// The kinds of content (000, tables 3 to 6, 13 to 16 and 18); Raw is carried unopened, Unknown refused.
 pub enum Form {
     Frequencies,
     Address,
@@ -20,7 +21,6 @@ pub enum Form {
     Factory,
     Drill,
     Text,
-    Command,
     Hold,
     Raw,
     Unknown,
@@ -91,9 +91,6 @@ pub enum Content {
         set: u8,
         length: usize,
     },
-    Command {
-        length: usize,
-    },
     Hold {
         serial: u8,
     },
@@ -137,7 +134,7 @@ pub fn form_of(t: u8) -> Form
         13 => Form::Factory,
         14 => Form::Drill,
         15 => Form::Text,
-        16 => Form::Command,
+        16 => Form::Raw,
         21 => Form::Hold,
         4..=8 => Form::Raw,
         11 => Form::Raw,
@@ -159,7 +156,6 @@ pub fn type_of(f: Form) -> u8
         Form::Factory => 13,
         Form::Drill => 14,
         Form::Text => 15,
-        Form::Command => 16,
         Form::Hold => 21,
         Form::Raw => 4,
         Form::Unknown => 31,
@@ -196,7 +192,6 @@ pub fn row_of(f: Form) -> Shape
         Form::Factory => table::factory(),
         Form::Drill => table::drill(),
         Form::Text => table::text(),
-        Form::Command => table::command(),
         Form::Hold => table::hold(),
         Form::Raw => table::raw(),
         Form::Unknown => table::unknown(),
@@ -239,6 +234,16 @@ pub fn is_unknown(f: Form) -> bool
     }
 }
 
+// A type that a writer refuses: 16, which is only read since the licence ended, and what no reader takes.
+pub fn not_written(t: u8) -> bool
+    ensures { λ r. ⌜ r ≡ notWritten t ⌝ }
+{
+    if t == 16 {
+        return true;
+    }
+    is_unknown(form_of(t))
+}
+
 // A kind with entries: each of its rows has several lines.
 pub fn has_entries(f: Form) -> bool
     ensures { λ r. ⌜ r ≡ hasEntries f ⌝ }
@@ -273,7 +278,6 @@ pub fn no_such_day(c: Content) -> bool
             set: _,
             length: _,
         } => false,
-        Content::Command { length: _ } => false,
         Content::Hold { serial: _ } => false,
     }
 }

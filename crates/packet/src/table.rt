@@ -1,4 +1,4 @@
-// The table of contents, a function for each kind (000, tables 3 to 6 and 13 to 18).
+// The table of contents, a function for each kind (000, tables 3 to 6, 13 to 16 and 18).
 ghost use Rattle.packet.specs.Shape.{Shaped};
 ghost use Rattle.packet.specs.Table.{rowOf};
 ghost use Rattle.packet.specs.declared.Form.the-variants as form;
@@ -94,15 +94,6 @@ pub(crate) fn text() -> Shape
     rows::counted_row(head, octet, rows::no_lines())
 }
 
-// Type 16, table 17.
-pub(crate) fn command() -> Shape
-    ensures { λ r. ⌜ Shaped r (rowOf form.Command) ⌝ }
-{
-    let octet = rows::one_line(rows::an_octets(1));
-    let none = rows::no_lines();
-    rows::counted_row(none, octet, none)
-}
-
 // Type 21, table 18.
 pub(crate) fn hold() -> Shape
     ensures { λ r. ⌜ Shaped r (rowOf form.Hold) ⌝ }
@@ -110,7 +101,7 @@ pub(crate) fn hold() -> Shape
     rows::fixed_row(rows::two_lines(rows::an_any(8, 255), rows::a_ones(8, 255)))
 }
 
-// Types 4 to 8, 11 and 22 to 24: bytes as they are.
+// Types 4 to 8, 11, 22 to 24, and 16, which old shelves still hold: bytes as they are.
 pub(crate) fn raw() -> Shape
     ensures { λ r. ⌜ Shaped r (rowOf form.Raw) ⌝ }
 {

@@ -11,10 +11,10 @@ use Rattle.laws.specs.Refusals.{none}
 use Rattle.laws.proofs.Refusals.{stop, pass}
 use Rattle.packet.specs.declared.Fields.{Fields}
 use Rattle.packet.specs.declared.Written.{Written}
-use Rattle.packet.specs.Table.{refusedType}
+use Rattle.packet.specs.Table.{refusedType, unwrittenType}
 use Rattle.packet.specs.Reading.{kindIn, sizeBad, readCases, readAnswer, textCases, textAnswer, opened, refusedAs, bodyOf, textOf}
 use Rattle.packet.specs.Writing.{writeCases, writtenAnswer, written, packetOutput, sizeFor, bytesFor}
-use Rattle.packet.proofs.Forms.{refused-types}
+use Rattle.packet.proofs.Forms.{refused-types, unwritten-types}
 use Rattle.packet.proofs.Refused.{not-opened, no-part, not-written}
 use Rattle.trips.proofs.Answers.{then-apart, write-apart, read-answer, write-answer, read-exact, write-exact}
 use Rattle.promises.specs.Exactly.{Exactly}
@@ -32,9 +32,9 @@ packet-answer-exact = (
   λ f codes body room. subst (λ (a : ℕ). Exactly a (writeCases f codes body room)) (sym (write-answer f codes body room)) (exactly (writeCases f codes body room) (write-apart f codes body room)),
 )
 
--- 23 comes exactly for types 9, 10, 17 to 20 and 25 or above: of the reader where the size is right, of the writer always.
+-- 23 comes exactly for types 9, 10, 17 to 20 and 25 or above, of the reader where the size is right; of the writer always, and for type 16 too.
 pub types-refused : ((packet : List ℕ) → (opened packet .answer ≡ 23) ↔ ((refusedType (kindIn packet) ≡ true) × (sizeBad packet ≡ false)))
-    × ((f : Fields) (codes body : List ℕ) (room : ℕ) → (written f codes body room .answer ≡ 23) ↔ (refusedType (f .kind) ≡ true))
+    × ((f : Fields) (codes body : List ℕ) (room : ℕ) → (written f codes body room .answer ≡ 23) ↔ (unwrittenType (f .kind) ≡ true))
 unfolding none readAnswer writtenAnswer
 types-refused = (
   λ b.
@@ -44,8 +44,8 @@ types-refused = (
       ),
   λ f codes body room.
       let x = write-exact f codes body room 0 (omega arith) in (
-        λ e. sym (refused-types (f .kind)) ∙ x .0 (sym (write-answer f codes body room) ∙ e) .0,
-        λ y. write-answer f codes body room ∙ stop 23 _ (refused-types (f .kind) ∙ y),
+        λ e. sym (unwritten-types (f .kind)) ∙ x .0 (sym (write-answer f codes body room) ∙ e) .0,
+        λ y. write-answer f codes body room ∙ stop 23 _ (unwritten-types (f .kind) ∙ y),
       ),
 )
   where

@@ -113,7 +113,7 @@ pub fn text(packet: &[u8]) -> &[u8]
     }
 }
 
-// The address, the text, the command or the raw bytes; empty where there are none.
+// The address, the text or the raw bytes; empty where there are none.
 pub fn body(packet: &[u8]) -> &[u8]
     ensures { λ r. ⌜ now r ≡ bodyOf (now (packet .entry)) ⌝ }
 {

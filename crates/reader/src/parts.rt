@@ -150,7 +150,6 @@ pub(crate) fn typed(f: Form, b: &[u8], q: usize, k: usize) -> Content
             Content::Drill { action: x }
         }
         Form::Text => text(b, q, k),
-        Form::Command => Content::Command { length: k },
         Form::Hold => {
             let x = lines::small(b, q, 8);
             Content::Hold { serial: x }
@@ -240,7 +239,6 @@ fn digits_of(f: Form, b: &[u8], q: usize, k: usize) -> [u8; 35]
             format::fields(b, q + 12, 35, 4, &mut d, 0);
             d
         }
-        Form::Command => d,
         Form::Hold => d,
         Form::Raw => d,
         Form::Unknown => d,

@@ -12,7 +12,7 @@ use borrow.Author.Tests.{le-leb, le-ltb, eq-eqb, ne-eqb}
 use Rattle.laws.specs.Bits.{at, run, bits, bytes}
 use Rattle.laws.specs.Scan.{all}
 use Rattle.laws.proofs.Bits.{Under, at-small}
-use Rattle.laws.proofs.Cases.{if-yes, if-no, and-yes}
+use Rattle.laws.proofs.Cases.{if-yes, if-no, and-yes, or-no}
 use Rattle.laws.proofs.Refusals.{pass, stop, none-left}
 use Rattle.format.specs.declared.Line.{Line}
 use Rattle.format.specs.Format.{times, octets, size, encode, decode, need, fill, flat, inside, fine, unmet}
@@ -21,10 +21,10 @@ use Rattle.format.proofs.Round.{write-read}
 use Rattle.packet.specs.declared.Form.{Form}
 use Rattle.packet.specs.declared.Fields.{Fields}
 use Rattle.packet.specs.declared.Opened.{Opened}
-use Rattle.packet.specs.Table.{formOf, typeOf, contentBytes, rowOf, countLine, contentLines, code, ending, packet}
+use Rattle.packet.specs.Table.{typeOf, contentBytes, rowOf, countLine, contentLines, code, ending, packet}
 use Rattle.packet.specs.Content.{formFor, numbersOf, numbersIn, countFor, noSuchDay}
-use Rattle.packet.specs.Reading.{kindIn, codesIn, formIn, contentAt, contentSize, countOf, partAt, tableOf, valuesIn, numbersAt, frontIn, bodyIn, backIn, contentIn, digitsIn, zeros, padded, codesOf, hasEntries, fieldsOf, isUnknown, readAnswer, openedBy, opened, partBy, bodyOf}
-use Rattle.packet.specs.Writing.{rowFor, digitsBefore, digitsAfter, frontFor, backFor, bodyFor, sizeFor, tableFor, numbersFor, valuesFor, bytesFor, lentBad, countBad, digitBad, otherType, bodyLost, digitsLost, notTaken, writtenAnswer, writtenBy, written, outputBy, packetOutput}
+use Rattle.packet.specs.Reading.{kindIn, codesIn, formIn, contentAt, contentSize, countOf, partAt, tableOf, valuesIn, numbersAt, frontIn, bodyIn, backIn, contentIn, digitsIn, zeros, padded, codesOf, hasEntries, fieldsOf, readAnswer, openedBy, opened, partBy, bodyOf}
+use Rattle.packet.specs.Writing.{rowFor, digitsBefore, digitsAfter, frontFor, backFor, bodyFor, sizeFor, tableFor, numbersFor, valuesFor, bytesFor, lentBad, notWritten, countBad, digitBad, otherType, bodyLost, digitsLost, notTaken, writtenAnswer, writtenBy, written, outputBy, packetOutput}
 use Rattle.packet.proofs.Accepted.{Accepted, accepted}
 use Rattle.packet.proofs.Column.{content-size}
 use Rattle.trips.proofs.Parts as parts
@@ -205,9 +205,9 @@ module _ (b : List ℕ) (z : Accepted b) where
       (inside-append 0 9 (drop (numbersIn (formIn b)) (frontIn b)) (backIn b) (front-digits (formIn b) (bits b) (contentAt b) (part-25 .0)) (back-digits (formIn b) (bits b) _ (part-25 .1)))
       (wider (drop (length (digitsIn b)) (zeros 35)) (rest-zeros 35 (length (digitsIn b))))
 
-  no-23 : isUnknown (formOf (fieldsOf b .kind)) ≡ false
+  no-23 : (kindIn b ≡ 16 → ⊥) → notWritten (fieldsOf b .kind) ≡ false
   unfolding fieldsOf
-  no-23 = z .known
+  no-23 h = or-no _ (ne-eqb (kindIn b) 16 h) ∙ z .known
 
   no-26 : countBad (fieldsOf b) (codesOf b) (bodyIn b) ≡ false
   unfolding countBad fieldsOf
@@ -232,17 +232,17 @@ module _ (b : List ℕ) (z : Accepted b) where
       (ap₂ _||_ (only-none (kindIn b) (codesIn b) h)
       (ap₂ _||_ (ap not (ap₂ (fine 27) table-is values-is ∙ z .c27)) (z .day)))))
 
-  answer-is : (room : ℕ) → length b ≤ room → (kindIn b ≡ 1 → codesIn b ≡ 0) → writtenAnswer (fieldsOf b) (codesOf b) (bodyIn b) room ≡ 0
+  answer-is : (room : ℕ) → length b ≤ room → (kindIn b ≡ 1 → codesIn b ≡ 0) → (kindIn b ≡ 16 → ⊥) → writtenAnswer (fieldsOf b) (codesOf b) (bodyIn b) room ≡ 0
   unfolding writtenAnswer
-  answer-is room r h =
-      pass 23 _ no-23 ∙ pass 26 _ no-26 ∙ pass 25 _ no-25 ∙ pass 27 _ (no-27 h)
+  answer-is room r h k =
+      pass 23 _ (no-23 k) ∙ pass 26 _ no-26 ∙ pass 25 _ no-25 ∙ pass 27 _ (no-27 h)
       ∙ pass 20 _ (le-ltb 250 (sizeFor (fieldsOf b) (bodyIn b)) (omega (arith, size-is, z .most)))
       ∙ pass 10 [] (le-ltb room (sizeFor (fieldsOf b) (bodyIn b)) (omega (arith, size-is))) ∙ none-left
 
   refused-is : (room : ℕ) → kindIn b ≡ 1 → (codesIn b ≡ 0 → ⊥) → writtenAnswer (fieldsOf b) (codesOf b) (bodyIn b) room ≡ 27
   unfolding writtenAnswer notTaken fieldsOf
   refused-is room k n =
-      pass 23 _ no-23 ∙ pass 26 _ no-26 ∙ pass 25 _ no-25
+      pass 23 _ (no-23 (λ h. omega arith)) ∙ pass 26 _ no-26 ∙ pass 25 _ no-25
       ∙ stop 27 _ (later-true (otherType (fieldsOf b)) _ (later-true (bodyLost (rowFor (contentIn b) .sort) (length (bodyIn b))) _ (later-true (digitsLost (contentIn b) (padded 35 (digitsIn b))) _ (ap₂ (λ (x y : Bool). (x && not y) || (not (fine 27 (tableFor (fieldsOf b) (bodyIn b)) (valuesFor (fieldsOf b) (codesOf b) (bodyIn b))) || noSuchDay (contentIn b))) (eq-eqb (kindIn b) 1 k) (ne-eqb (codesIn b) 0 n)))))
 
   -- ---- what is lent for what was read
@@ -308,22 +308,22 @@ module _ (b : List ℕ) (u : Under 256 b) (e : readAnswer b ≡ 0) where
           if-no (take (countFor (contentIn b) [] * 8) (padded 272 (cond (hasEntries (formIn b)) (bodyIn b) []))) _ c1
           ∙ ap (λ (n : ℕ). take n (drop (3 + 12 * codesIn b + partAt (rowOf (formIn b)) / 8) b)) (if-no 0 (countOf b) h) ∙ part-lent b acc u h
 
--- Every packet that a reader accepts, but type 1 with codes, is written back byte for byte from what was read, its length handed back; the rest of the
--- output stays.
-pub bytes-come-back : (b out : List ℕ) → Under 256 b → opened b .answer ≡ 0 → length b ≤ length out → (opened b .fields .kind ≡ 1 → opened b .fields .codes ≡ 0)
+-- Every packet that a reader accepts, but type 1 with codes and type 16, is written back byte for byte from what was read, its length handed back; the
+-- rest of the output stays.
+pub bytes-come-back : (b out : List ℕ) → Under 256 b → opened b .answer ≡ 0 → length b ≤ length out → (opened b .fields .kind ≡ 1 → opened b .fields .codes ≡ 0) → (opened b .fields .kind ≡ 16 → ⊥)
     → (written (opened b .fields) (lentCodes (opened b)) (lentBody (opened b) (bodyOf b)) (length out) ≡ record { answer = 0; length = length b })
     × (packetOutput (opened b .fields) (lentCodes (opened b)) (lentBody (opened b) (bodyOf b)) out ≡ b ++ drop (length b) out)
 unfolding written packetOutput fieldsOf
-bytes-come-back b out u e r h =
+bytes-come-back b out u e r h c =
     let a = sym (read-answer b) ∙ e in
     let z = acc b u a in
     let g : kindIn b ≡ 1 → codesIn b ≡ 0 = λ k. sym (ap (λ (f : Fields). f .codes) (fields-are b u a)) ∙ h (ap (λ (f : Fields). f .kind) (fields-are b u a) ∙ k) in
-    let w = ap₂ (λ (f : Fields) (c : List ℕ). writtenAnswer f c (lentBody (opened b) (bodyOf b)) (length out)) (fields-are b u a) (lent-codes b u a) ∙ ap (λ (y : List ℕ). writtenAnswer (fieldsOf b) (codesOf b) y (length out)) (lent-body b u a) ∙ answer-is b z (length out) r g in
+    let w = ap₂ (λ (f : Fields) (c : List ℕ). writtenAnswer f c (lentBody (opened b) (bodyOf b)) (length out)) (fields-are b u a) (lent-codes b u a) ∙ ap (λ (y : List ℕ). writtenAnswer (fieldsOf b) (codesOf b) y (length out)) (lent-body b u a) ∙ answer-is b z (length out) r g (λ k. c (ap (λ (f : Fields). f .kind) (fields-are b u a) ∙ k)) in
     let n = ap₂ sizeFor (fields-are b u a) (lent-body b u a) ∙ size-is b z in
     let v = ap₂ (λ (f : Fields) (c : List ℕ). bytesFor f c (lentBody (opened b) (bodyOf b))) (fields-are b u a) (lent-codes b u a) ∙ ap (λ (y : List ℕ). bytesFor (fieldsOf b) (codesOf b) y) (lent-body b u a) ∙ bytes-is b z u in
     (ap₂ writtenBy w n, ap₂ (λ (m : ℕ) (xs : List ℕ). outputBy m xs out) w v)
 
--- The exception of demand 2: type 1 with codes is read, and the writer answers 27.
+-- The first exception of demand 2: type 1 with codes is read, and the writer answers 27.
 pub codes-refused : (b : List ℕ) (room : ℕ) → Under 256 b → opened b .answer ≡ 0 → opened b .fields .kind ≡ 1 → (opened b .fields .codes ≡ 0 → ⊥)
     → written (opened b .fields) (lentCodes (opened b)) (lentBody (opened b) (bodyOf b)) room .answer ≡ 27
 unfolding fieldsOf

@@ -133,5 +133,4 @@ count-back (content.Reset change) body l q m h e = refl
 count-back content.Factory body l q m h e = refl
 count-back (content.Drill action) body l q m h e = refl
 count-back (content.Text kind set t) body l q m h e = just-is t l (q + size (rowOf Text .before)) h
-count-back (content.Command k) body l q m h e = just-is k l (q + size []) h
 count-back (content.Hold serial) body l q m h e = refl

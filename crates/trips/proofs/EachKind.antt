@@ -16,7 +16,7 @@ use Rattle.packet.proofs.Good.{good}
 use Rattle.packet.proofs.Contents.{numbers-long}
 use Rattle.format.specs.Format.{decode, need, flat, inside, fine}
 use Rattle.packet.specs.declared.Form.{Form}
-use Rattle.packet.specs.declared.Form.the-variants.{Frequencies, Address, Keep, Clock, Reset, Factory, Drill, Text, Command, Hold, Raw, Unknown}
+use Rattle.packet.specs.declared.Form.the-variants.{Frequencies, Address, Keep, Clock, Reset, Factory, Drill, Text, Hold, Raw, Unknown}
 use Rattle.packet.specs.Table.{rowOf, countIn}
 use Rattle.packet.specs.Content.{contentOf, formFor, numbersOf, numbersIn, countFor}
 use Rattle.packet.specs.Reading.{isUnknown}
@@ -32,7 +32,6 @@ form-of Reset xs k h = refl
 form-of Factory xs k h = refl
 form-of Drill xs k h = refl
 form-of Text xs k h = refl
-form-of Command xs k h = refl
 form-of Hold xs k h = refl
 form-of Raw xs k h = refl
 form-of Unknown xs k h = absurd (true≢false h)
@@ -59,7 +58,6 @@ numbers-back Drill (x ∷ xs) k h = refl
 numbers-back Text [] k h = absurd (omega arith)
 numbers-back Text (x ∷ []) k h = absurd (omega arith)
 numbers-back Text (x ∷ y ∷ xs) k h = refl
-numbers-back Command xs k h = refl
 numbers-back Hold [] k h = absurd (omega arith)
 numbers-back Hold (x ∷ xs) k h = refl
 numbers-back Raw xs k h = refl
@@ -76,7 +74,6 @@ count-for Reset xs body l q m k h e n = sym e
 count-for Factory xs body l q m k h e n = sym e
 count-for Drill xs body l q m k h e n = sym e
 count-for Text xs body l q m k h e n = refl
-count-for Command xs body l q m k h e n = refl
 count-for Hold xs body l q m k h e n = sym e
 count-for Raw xs body l q m k h e n = omega (arith, n)
 count-for Unknown xs body l q m k h e n = absurd (true≢false h)
@@ -92,7 +89,6 @@ front-digits Reset l q h = and-left _ true h
 front-digits Factory l q h = refl
 front-digits Drill l q h = and-left _ true h
 front-digits Text l q h = and-left _ true h
-front-digits Command l q h = refl
 front-digits Hold l q h = refl
 front-digits Raw l q h = refl
 front-digits Unknown l q h = refl
@@ -107,7 +103,6 @@ back-digits Reset l q h = refl
 back-digits Factory l q h = refl
 back-digits Drill l q h = refl
 back-digits Text l q h = refl
-back-digits Command l q h = refl
 back-digits Hold l q h = refl
 back-digits Raw l q h = refl
 back-digits Unknown l q h = refl

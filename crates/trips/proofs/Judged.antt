@@ -24,7 +24,7 @@ use Rattle.packet.specs.declared.Fields.{Fields}
 use Rattle.packet.specs.declared.Content.{Content}
 use Rattle.packet.specs.Content.{contentOf, numbersIn, countFor, noSuchDay}
 use Rattle.packet.specs.Reading.{kindIn, lengthIn, codesIn, formIn, contentAt, contentSize, countOf, countSize, partAt, tableOf, valuesIn, numbersAt, frontIn, bodyIn, backIn, contentIn, digitsIn, zeros, padded, codesOf, hasEntries, fieldsOf, sizeBad, lengthBad, isUnknown, fieldBad, readCases, readAnswer, openedBy, opened, partBy, bodyOf, textAnswer, textOf}
-use Rattle.packet.specs.Writing.{rowFor, frontFor, backFor, bodyFor, sizeFor, tableFor, numbersFor, valuesFor, lentBad, countBad, digitBad, otherType, bodyLost, digitsLost, notTaken, writtenAnswer, writtenBy, written}
+use Rattle.packet.specs.Writing.{rowFor, frontFor, backFor, bodyFor, sizeFor, tableFor, numbersFor, valuesFor, lentBad, notWritten, countBad, digitBad, otherType, bodyLost, digitsLost, notTaken, writtenAnswer, writtenBy, written}
 use Rattle.packet.proofs.Column.{count-size, content-size, column}
 use Rattle.packet.proofs.Accepted.{Accepted, accepted, right-size, body-inside, later, later-not, text-later, text-there}
 use Rattle.packet.proofs.Refused.{no-part}
@@ -501,7 +501,7 @@ module _ (f : Fields) (codes body : List ℕ) (digits-long : length (f .digits) 
   answers-alike : (room : ℕ) → writtenAnswer f codes body room ≡ writtenAnswer (signed f t s) codes body room
   unfolding writtenAnswer countBad digitBad notTaken tableFor sizeFor
   answers-alike room =
-      by-test (isUnknown (formOf (f .kind)))
+      by-test (notWritten (f .kind))
       (λ x. stop 23 _ x ∙ sym (stop 23 _ x))
       (λ x.
       by-test (countBad f codes body)
@@ -509,7 +509,7 @@ module _ (f : Fields) (codes body : List ℕ) (digits-long : length (f .digits) 
       (λ y.
       let p = lines-alike y 25 refl in
       let q = lines-alike y 27 refl in
-      ap₂ (λ (u v : Bool). first ((isUnknown (formOf (f .kind)), 23) ∷ (countBad f codes body, 26) ∷ (not u || not (inside 0 9 (f .digits)), 25)
+      ap₂ (λ (u v : Bool). first ((notWritten (f .kind), 23) ∷ (countBad f codes body, 26) ∷ (not u || not (inside 0 9 (f .digits)), 25)
       ∷ (otherType f || (bodyLost (rowFor (f .content) .sort) (length body) || (digitsLost (f .content) (f .digits) || ((eqb (f .kind) 1 && not (eqb (f .codes) 0)) || (not v || noSuchDay (f .content))))), 27)
       ∷ (ltb 250 (sizeFor f body), 20) ∷ (ltb room (sizeFor f body), 10) ∷ [])) p q))
 

@@ -13,3 +13,4 @@ pub mod Reread
 pub mod EachKind
 pub mod Accepted
 pub mod Judged
+pub mod Retired

@@ -14,10 +14,10 @@ use Rattle.format.specs.Format.{just, octets, size, need, inside, fine, unmet}
 use Rattle.packet.specs.declared.Form.the-variants.{Unknown}
 use Rattle.packet.specs.declared.Content.{Content}
 use Rattle.packet.specs.declared.Fields.{Fields}
-use Rattle.packet.specs.Table.{formOf, countLine, code}
+use Rattle.packet.specs.Table.{formOf, onlyRead, countLine, code}
 use Rattle.packet.specs.Content.{formFor, numbersOf, countFor, noSuchDay}
 use Rattle.packet.specs.Reading.{isUnknown}
-use Rattle.packet.specs.Writing.{rowFor, digitsBefore, digitsAfter, frontFor, backFor, bodyFor, sizeFor, tableFor, valuesFor, lentBad, countBad, digitBad, otherType, bodyLost, digitsLost, notTaken, writtenAnswer}
+use Rattle.packet.specs.Writing.{rowFor, digitsBefore, digitsAfter, frontFor, backFor, bodyFor, sizeFor, tableFor, valuesFor, lentBad, notWritten, countBad, digitBad, otherType, bodyLost, digitsLost, notTaken, writtenAnswer}
 use Rattle.packet.proofs.Forms as forms
 use Rattle.trips.proofs.Fitting as fitting
 use Rattle.trips.proofs.Contents as contents
@@ -47,7 +47,7 @@ pub record Taken (f : Fields) (codes body : List ℕ) : Type 0 where
 pub taken : (f : Fields) (codes body : List ℕ) (room : ℕ) → writtenAnswer f codes body room ≡ 0 → Taken f codes body
 unfolding writtenAnswer countBad digitBad notTaken
 taken f codes body room e =
-    let a = not-due (isUnknown (formOf (f .kind))) 23 _ (λ h. omega arith) e in
+    let a = not-due (notWritten (f .kind)) 23 _ (λ h. omega arith) e in
     let b = not-due _ 26 _ (λ h. omega arith) (a .1) in
     let d = not-due _ 25 _ (λ h. omega arith) (b .1) in
     let g = not-due _ 27 _ (λ h. omega arith) (d .1) in
@@ -61,7 +61,7 @@ taken f codes body room e =
     let g4 = or-both (eqb (f .kind) 1 && not (eqb (f .codes) 0)) _ (g3 .1) in
     let g5 = or-both (not (fine 27 (tableFor f body) (valuesFor f codes body))) (noSuchDay (f .content)) (g4 .1) in
     record {
-      known = a .0;
+      known = or-both (onlyRead (f .kind)) (isUnknown (formOf (f .kind))) (a .0) .1;
       few = leb-true (f .codes) 255 (b2 .0);
       codes-long = eqb-true (length codes) (f .codes * 23) (b2 .1);
       lent = b1 .1;

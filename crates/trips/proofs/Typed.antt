@@ -60,7 +60,6 @@ front-held (content.Reset change) ds h = refl
 front-held content.Factory ds h = refl
 front-held (content.Drill action) ds h = refl
 front-held (content.Text kind set t) ds h = refl
-front-held (content.Command k) ds h = refl
 front-held (content.Hold serial) ds h = rw (le-leb 0 serial (omega arith), h)
 
 ending-held : (x : ℕ) (y s : List ℕ) → x < 4294967296 → length y ≡ 12 → length s ≡ 64 → Under 256 s → fine 0 ending (fill ending (x ∷ (y ++ s))) ≡ true

@@ -27,7 +27,6 @@ held (content.Reset change) = true
 held content.Factory = true
 held (content.Drill action) = true
 held (content.Text kind set t) = true
-held (content.Command k) = true
 held (content.Hold serial) = leb serial 255
 
 -- fields and a body of their types: arrays of their lengths, bytes below 256, a time of 32 bits

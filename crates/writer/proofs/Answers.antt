@@ -9,16 +9,14 @@ use borrow.Author.Tests.{lt-ltb, le-ltb}
 use Rattle.laws.specs.Refusals.{first}
 use Rattle.laws.proofs.Refusals.{stop, pass, none-left}
 use Rattle.packet.specs.declared.Fields.{Fields}
-use Rattle.packet.specs.Table.{formOf}
-use Rattle.packet.specs.Reading.{isUnknown}
-use Rattle.packet.specs.Writing.{sizeFor, countBad, digitBad, notTaken, writeCases, writtenAnswer}
+use Rattle.packet.specs.Writing.{sizeFor, notWritten, countBad, digitBad, notTaken, writeCases, writtenAnswer}
 
 module _ (f : Fields) (codes body : List ℕ) (room : ℕ) where
-  pub says-23 : isUnknown (formOf (f .kind)) ≡ true → 23 ≡ writtenAnswer f codes body room
+  pub says-23 : notWritten (f .kind) ≡ true → 23 ≡ writtenAnswer f codes body room
   unfolding writtenAnswer
   says-23 e = sym (stop _ _ e)
 
-  module _ (u : isUnknown (formOf (f .kind)) ≡ false) where
+  module _ (u : notWritten (f .kind) ≡ false) where
     pub says-26 : countBad f codes body ≡ true → 26 ≡ writtenAnswer f codes body room
     unfolding writtenAnswer
     says-26 e = sym (pass _ _ u ∙ stop _ _ e)

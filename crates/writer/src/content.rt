@@ -93,7 +93,6 @@ fn lay(c: Content) -> Laid
                 length,
             )
         }
-        Content::Command { length } => laid_as(Form::Command, 0, six(0, 0, 0, 0, 0, 0), length),
         Content::Hold { serial } => laid_as(Form::Hold, 1, six(serial as u32, 0, 0, 0, 0, 0), 0),
     }
 }

@@ -278,7 +278,7 @@ fn rest_answer(f: Fields, codes: &[u8], body: &[u8], room: usize) -> u8
 pub(crate) fn answer(f: Fields, codes: &[u8], body: &[u8], room: usize) -> u8
     ensures { λ r. ⌜ r ≡ writtenAnswer f (now (codes .entry)) (now (body .entry)) room ⌝ }
 {
-    if packet::is_unknown(packet::form_of(f.kind)) {
+    if packet::not_written(f.kind) {
         return 23;
     }
     if counts_bad(f, codes, body) {

@@ -41,9 +41,6 @@ enum-told-8 c = search needs
 enum-told-9 : tie.Need-enum-told-9
 enum-told-9 c = search needs
 
-enum-told-10 : tie.Need-enum-told-10
-enum-told-10 c = search needs
-
 returns : tie.Need-returns
 returns c = search needs
 
@@ -76,9 +73,6 @@ returns-9 c = search needs
 returns-10 : tie.Need-returns-10
 returns-10 c = search needs
 
-returns-11 : tie.Need-returns-11
-returns-11 c = search needs
-
 pub no-such-day-spec : {M : Type 1} → statement M
 no-such-day-spec =
     tie.close
@@ -94,7 +88,6 @@ no-such-day-spec =
     enum-told-7
     enum-told-8
     enum-told-9
-    enum-told-10
     returns
     returns-2
     returns-3
@@ -104,5 +97,4 @@ no-such-day-spec =
     returns-7
     returns-8
     returns-9
-    returns-10
-    returns-11)
+    returns-10)

@@ -54,23 +54,17 @@ text-requires c κs = search needs
 enum-told-9 : tie.Need-enum-told-9
 enum-told-9 c = search needs
 
-command-requires : tie.Need-command-requires
-command-requires c κs = search needs
+hold-requires : tie.Need-hold-requires
+hold-requires c κs = search needs
 
 enum-told-10 : tie.Need-enum-told-10
 enum-told-10 c = search needs
 
-hold-requires : tie.Need-hold-requires
-hold-requires c κs = search needs
-
-enum-told-11 : tie.Need-enum-told-11
-enum-told-11 c = search needs
-
 raw-requires : tie.Need-raw-requires
 raw-requires c κs = search needs
 
-enum-told-12 : tie.Need-enum-told-12
-enum-told-12 c = search needs
+enum-told-11 : tie.Need-enum-told-11
+enum-told-11 c = search needs
 
 unknown-requires : tie.Need-unknown-requires
 unknown-requires c κs = search needs
@@ -100,16 +94,13 @@ returns-8 : tie.Need-returns-8
 returns-8 c = rw (c .before .enum-told8 .given .1) (c .text .ensures)
 
 returns-9 : tie.Need-returns-9
-returns-9 c = rw (c .before .enum-told9 .given .1) (c .command .ensures)
+returns-9 c = rw (c .before .enum-told9 .given .1) (c .hold .ensures)
 
 returns-10 : tie.Need-returns-10
-returns-10 c = rw (c .before .enum-told10 .given .1) (c .hold .ensures)
+returns-10 c = rw (c .before .enum-told10 .given .1) (c .raw .ensures)
 
 returns-11 : tie.Need-returns-11
-returns-11 c = rw (c .before .enum-told11 .given .1) (c .raw .ensures)
-
-returns-12 : tie.Need-returns-12
-returns-12 c = rw (c .before .enum-told12 .given .1) (c .unknown .ensures)
+returns-11 c = rw (c .before .enum-told11 .given .1) (c .unknown .ensures)
 
 pub row-of-spec : {M : Type 1} → statement M
 row-of-spec =
@@ -132,12 +123,10 @@ row-of-spec =
     enum-told-8
     text-requires
     enum-told-9
-    command-requires
-    enum-told-10
     hold-requires
-    enum-told-11
+    enum-told-10
     raw-requires
-    enum-told-12
+    enum-told-11
     unknown-requires
     returns
     returns-2
@@ -149,5 +138,4 @@ row-of-spec =
     returns-8
     returns-9
     returns-10
-    returns-11
-    returns-12)
+    returns-11)

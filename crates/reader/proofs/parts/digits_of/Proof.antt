@@ -88,9 +88,6 @@ enum-told-10 c = search needs
 enum-told-11 : tie.Need-enum-told-11
 enum-told-11 c = search needs
 
-enum-told-12 : tie.Need-enum-told-12
-enum-told-12 c = search needs
-
 returns : tie.Need-returns
 unfolding decode flat run
 returns c = rw (c .enum-told .given .1) (c .before .before .zeros35 .ensures)
@@ -143,10 +140,6 @@ returns-11 : tie.Need-returns-11
 unfolding decode flat run
 returns-11 c = rw (c .enum-told11 .given .1) (c .before .before .zeros35 .ensures)
 
-returns-12 : tie.Need-returns-12
-unfolding decode flat run
-returns-12 c = rw (c .enum-told12 .given .1) (c .before .before .zeros35 .ensures)
-
 pub digits-of-spec : {M : Type 1} → statement M
 digits-of-spec =
     tie.close
@@ -177,7 +170,6 @@ digits-of-spec =
     enum-told-9
     enum-told-10
     enum-told-11
-    enum-told-12
     returns
     returns-2
     returns-3
@@ -188,5 +180,4 @@ digits-of-spec =
     returns-8
     returns-9
     returns-10
-    returns-11
-    returns-12)
+    returns-11)

@@ -53,17 +53,14 @@ text-requires c κs = search needs
 enum-told-9 : tie.Need-enum-told-9
 enum-told-9 c = search needs
 
-enum-told-10 : tie.Need-enum-told-10
-enum-told-10 c = search needs
-
 small-requires-3 : tie.Need-small-requires-3
 small-requires-3 c κs = search needs
 
+enum-told-10 : tie.Need-enum-told-10
+enum-told-10 c = search needs
+
 enum-told-11 : tie.Need-enum-told-11
 enum-told-11 c = search needs
-
-enum-told-12 : tie.Need-enum-told-12
-enum-told-12 c = search needs
 
 returns : tie.Need-returns
 returns c = rw (c .enum-told .given .1)
@@ -92,17 +89,14 @@ returns-8 : tie.Need-returns-8
 returns-8 c = rw (c .before .enum-told8 .given .1) (c .text .ensures)
 
 returns-9 : tie.Need-returns-9
-returns-9 c = rw (c .enum-told9 .given .1)
+unfolding decode flat run
+returns-9 c = rw (c .before .enum-told9 .given .1, c .small3 .ensures)
 
 returns-10 : tie.Need-returns-10
-unfolding decode flat run
-returns-10 c = rw (c .before .enum-told10 .given .1, c .small3 .ensures)
+returns-10 c = rw (c .enum-told10 .given .1)
 
 returns-11 : tie.Need-returns-11
 returns-11 c = rw (c .enum-told11 .given .1)
-
-returns-12 : tie.Need-returns-12
-returns-12 c = rw (c .enum-told12 .given .1)
 
 pub typed-spec : {M : Type 1} → statement M
 typed-spec =
@@ -124,10 +118,9 @@ typed-spec =
     enum-told-8
     text-requires
     enum-told-9
-    enum-told-10
     small-requires-3
+    enum-told-10
     enum-told-11
-    enum-told-12
     returns
     returns-2
     returns-3
@@ -138,5 +131,4 @@ typed-spec =
     returns-8
     returns-9
     returns-10
-    returns-11
-    returns-12)
+    returns-11)

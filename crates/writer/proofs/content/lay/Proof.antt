@@ -126,23 +126,14 @@ laid-as-requires-9 c κs = search needs
 enum-known-c-8 : tie.Need-enum-known-c-8
 enum-known-c-8 c = search needs
 
+cast-six-13 : tie.Need-cast-six-13
+cast-six-13 c = search needs
+
 six-requires-10 : tie.Need-six-requires-10
 six-requires-10 c κs = search needs
 
 laid-as-requires-10 : tie.Need-laid-as-requires-10
 laid-as-requires-10 c κs = search needs
-
-enum-known-c-9 : tie.Need-enum-known-c-9
-enum-known-c-9 c = search needs
-
-cast-six-13 : tie.Need-cast-six-13
-cast-six-13 c = search needs
-
-six-requires-11 : tie.Need-six-requires-11
-six-requires-11 c κs = search needs
-
-laid-as-requires-11 : tie.Need-laid-as-requires-11
-laid-as-requires-11 c κs = search needs
 
 returns : tie.Need-returns
 returns c = rw (c .before .before .enum-told .given .1) (laid-by _ _ _ _ _ _ _ (c .laid-as .ensures) (c .before .six .ensures .0) (c .before .six .ensures .1) refl refl refl (omega arith) refl)
@@ -173,9 +164,6 @@ returns-9 c = rw (c .before .before .before .c7 .given .1) (laid-by _ _ _ _ _ _ 
 
 returns-10 : tie.Need-returns-10
 returns-10 c = rw (c .before .before .before .c8 .given .1) (laid-by _ _ _ _ _ _ _ (c .laid-as10 .ensures) (c .before .six10 .ensures .0) (c .before .six10 .ensures .1) refl refl refl (omega arith) refl)
-
-returns-11 : tie.Need-returns-11
-returns-11 c = rw (c .before .before .before .c9 .given .1) (laid-by _ _ _ _ _ _ _ (c .laid-as11 .ensures) (c .before .six11 .ensures .0) (c .before .six11 .ensures .1) refl refl refl (omega arith) refl)
 
 pub lay-spec : {M : Type 1} → statement M
 lay-spec =
@@ -221,12 +209,9 @@ lay-spec =
     six-requires-9
     laid-as-requires-9
     enum-known-c-8
+    cast-six-13
     six-requires-10
     laid-as-requires-10
-    enum-known-c-9
-    cast-six-13
-    six-requires-11
-    laid-as-requires-11
     returns
     returns-2
     returns-3
@@ -236,5 +221,4 @@ lay-spec =
     returns-7
     returns-8
     returns-9
-    returns-10
-    returns-11)
+    returns-10)
