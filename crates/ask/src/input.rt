@@ -18,15 +18,11 @@ pub(crate) fn whole(b: &[u8], head: usize, rest: usize) -> usize
     if n <= b.len() { n } else { 0 }
 }
 
-pub(crate) fn byte(b: &[u8], i: usize) -> u8 {
-    if i < b.len() { b[i] } else { 0 }
-}
-
 // A number of two bytes.
 pub(crate) fn two(b: &[u8], i: usize) -> u16
     requires { ⌜ i ≤ 1000 ⌝ }
 {
-    byte(b, i) as u16 * 256 + byte(b, i + 1) as u16
+    octets::byte(b, i) as u16 * 256 + octets::byte(b, i + 1) as u16
 }
 
 // A number of four bytes.
@@ -50,7 +46,7 @@ pub(crate) fn fill(b: &[u8], out: &mut [u8])
     let n = out.len();
     let mut i: usize = 0;
     while i < n {
-        out[i] = byte(b, i);
+        out[i] = octets::byte(b, i);
         i += 1;
     }
 }

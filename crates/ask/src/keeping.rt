@@ -75,22 +75,22 @@ fn pending(b: &[u8]) -> Receiver {
     Receiver {
         high: input::eight(b, 2),
         low: input::eight(b, 10),
-        count: input::byte(b, 1) as u32,
-        follows: input::byte(b, 18),
+        count: octets::byte(b, 1) as u32,
+        follows: octets::byte(b, 18),
     }
 }
 
 fn place(b: &[u8]) -> Holding {
     let mut marks = 0u64;
-    let number = input::byte(b, 6);
+    let number = octets::byte(b, 6);
     if number < 64 {
         marks = 1 << number;
     }
     Holding {
-        held: input::byte(b, 2) == 1,
-        level: input::byte(b, 3),
-        version: input::byte(b, 4),
-        total: Total(input::byte(b, 5)),
+        held: octets::byte(b, 2) == 1,
+        level: octets::byte(b, 3),
+        version: octets::byte(b, 4),
+        total: Total(octets::byte(b, 5)),
         marks: marks,
         bytes: [0; 252],
     }
@@ -98,19 +98,19 @@ fn place(b: &[u8]) -> Holding {
 
 fn with_place(c: Holdings, b: &[u8]) -> Holdings {
     let mut d = c;
-    let i = (input::byte(b, 1) % 4) as usize;
+    let i = (octets::byte(b, 1) % 4) as usize;
     d.places[i] = place(b);
     d
 }
 
 // The receiver behind a record.
 fn receiver_after(r: Receiver, b: &[u8]) -> Receiver {
-    match input::byte(b, 0) {
+    match octets::byte(b, 0) {
         b'R' => received(
             r,
             format::part(b, 6, 65536),
             input::two(b, 1) as usize,
-            input::byte(b, 3) as usize,
+            octets::byte(b, 3) as usize,
             &mut [0xEEu8; 400],
             &mut [0xEEu8; 60],
         ),
@@ -122,14 +122,14 @@ fn receiver_after(r: Receiver, b: &[u8]) -> Receiver {
 
 // The collector behind a record.
 fn collector_after(c: Holdings, b: &[u8]) -> Holdings {
-    match input::byte(b, 0) {
+    match octets::byte(b, 0) {
         b'O' => offered(c, format::part(b, 3, 65536)),
-        b'F' => released(c, input::byte(b, 1), input::byte(b, 2)),
+        b'F' => released(c, octets::byte(b, 1), octets::byte(b, 2)),
         b'C' => {
             copied(
                 c,
-                input::byte(b, 1),
-                input::byte(b, 2),
+                octets::byte(b, 1),
+                octets::byte(b, 2),
                 input::two(b, 3) as usize,
                 &mut [0xEEu8; 300],
             );

@@ -20,7 +20,7 @@ use libc::STDIN_FILENO;
 fn length_of(b: &[u8]) -> usize
     ensures { λ r. ⌜ r ≤ 200000 ⌝ }
 {
-    match input::byte(b, 0) {
+    match octets::byte(b, 0) {
         b'P' => input::whole(b, 3, input::two(b, 1) as usize),
         b'W' => input::whole(
             b,
@@ -51,14 +51,14 @@ fn length_of(b: &[u8]) -> usize
         b'S' => input::whole(b, 19, 0),
         b'H' => input::whole(b, 7, 0),
         b'D' => input::whole(b, 19, input::two(b, 17) as usize),
-        b'#' => input::whole(b, 2, input::byte(b, 1) as usize),
+        b'#' => input::whole(b, 2, octets::byte(b, 1) as usize),
         _ => 0,
     }
 }
 
 // The records that ask once and leave nothing; a word where the state is set, and a name.
 fn asked(b: &[u8]) {
-    match input::byte(b, 0) {
+    match octets::byte(b, 0) {
         b'P' => reading::record(b),
         b'W' => writing::record(b),
         b'A' => sending::record(b),

@@ -24,8 +24,8 @@ fn sent(packet: &[u8], level: u8, version: u8, n: usize, memory: &mut [u8]) {
 pub(crate) fn record(b: &[u8]) {
     sent(
         format::part(b, 7, 65536),
-        input::byte(b, 1),
-        input::byte(b, 2),
+        octets::byte(b, 1),
+        octets::byte(b, 2),
         input::two(b, 3) as usize,
         &mut [0xEEu8; 832],
     );

@@ -29,7 +29,7 @@ fn repeat(b: &[u8], out: &mut [u8])
     let mut at: usize = 0;
     let mut i: usize = 0;
     while i < n {
-        out[i] = input::byte(b, at);
+        out[i] = octets::byte(b, at);
         at = next(at, last);
         i += 1;
     }
@@ -92,8 +92,8 @@ fn made(level: u8, version: u8, packet: &[u8], n: usize, memory: &mut [u8]) {
 // A whole record.
 pub(crate) fn make(b: &[u8]) {
     made(
-        input::byte(b, 1),
-        input::byte(b, 2),
+        octets::byte(b, 1),
+        octets::byte(b, 2),
         format::part(b, 7, 65536),
         input::two(b, 3) as usize,
         &mut [0xEEu8; 300],

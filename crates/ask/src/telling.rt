@@ -14,7 +14,7 @@ fn story(b: &[u8]) -> Story {
     input::fill(format::part(b, 43, 12), &mut certificate);
     input::fill(format::part(b, 55, 64), &mut signature);
     Story {
-        kind: input::byte(b, 1),
+        kind: octets::byte(b, 1),
         digits: digits,
         codes: input::two(b, 2) as usize,
         time: input::four(b, 39),

@@ -10,9 +10,9 @@ use packet::Fields;
 // The content that a record names. A content uses of its numbers as many as it has.
 fn content(b: &[u8]) -> Content {
     let long = input::two(b, 5);
-    let first = input::byte(b, 7);
-    let second = input::byte(b, 8);
-    match input::byte(b, 4) {
+    let first = octets::byte(b, 7);
+    let second = octets::byte(b, 8);
+    match octets::byte(b, 4) {
         1 => Content::Frequencies {
             count: long as usize,
         },
@@ -27,9 +27,9 @@ fn content(b: &[u8]) -> Content {
             year: long,
             month: first,
             day: second,
-            hour: input::byte(b, 9),
-            minute: input::byte(b, 10),
-            second: input::byte(b, 11),
+            hour: octets::byte(b, 9),
+            minute: octets::byte(b, 10),
+            second: octets::byte(b, 11),
         },
         5 => Content::Reset { change: first },
         6 => Content::Factory,
@@ -53,7 +53,7 @@ fn fields(b: &[u8]) -> Fields {
     input::fill(format::part(b, 63, 64), &mut signature);
     let c = content(b);
     Fields {
-        kind: input::byte(b, 1),
+        kind: octets::byte(b, 1),
         codes: input::two(b, 2) as usize,
         content: c,
         digits: digits,

@@ -46,9 +46,9 @@ pub fn check_word(info: u16, offset: u16) -> u16
     rest ^ offset
 }
 
-// The same remainder, fast, with no loop, since hunting asks for validity at many places:
+// The remainder of an information word, fast, with no loop, since the search asks for it at many places:
 // q is the quotient, a sum of shifts of the information, and what q times the generator has below x^10 is the remainder.
-fn remainder_of(info: u16) -> u16
+pub fn remainder_of(info: u16) -> u16
     ensures { λ r. ⌜ r ≡ syndrome (info * 2 ^ 10) ⌝ }
 {
     let p = info as u32;

@@ -31,13 +31,6 @@ fn reaches(p: usize, n: usize, w: usize) -> bool
 
 // ---- reading
 
-// The byte at i, and 0 past the end.
-fn byte(b: &[u8], i: usize) -> u8
-    ensures { λ r. ⌜ r ≡ getD (now (b .entry)) i 0 ⌝ }
-{
-    if i < b.len() { b[i] } else { 0 }
-}
-
 // k bytes from a byte on; as many as there are.
 pub fn part(b: &[u8], from: usize, k: usize) -> &[u8]
     ensures { λ r. ⌜ now r ≡ partOf (now (b .entry)) from k ⌝ }
@@ -58,7 +51,7 @@ pub fn part(b: &[u8], from: usize, k: usize) -> &[u8]
 fn bit(b: &[u8], i: usize) -> u32
     ensures { λ r. ⌜ r ≡ getD (bits (now (b .entry))) i 0 ⌝ }
 {
-    let x = byte(b, i / 8) as u32;
+    let x = octets::byte(b, i / 8) as u32;
     (x >> ((7 - i % 8) as u32)) % 2
 }
 
@@ -183,7 +176,7 @@ fn put_bit(out: &mut [u8], i: usize, v: u8)
     requires { ⌜ v < 2 ⌝ }
     ensures { λ _. ⌜ bits (now (out .exit)) ≡ set (bits (now (out .entry))) i v ⌝ }
 {
-    let x = byte(out, i / 8);
+    let x = octets::byte(out, i / 8);
     let y = with_bit(x, i % 8, v);
     put(out, i / 8, y);
 }

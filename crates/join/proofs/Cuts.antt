@@ -1,20 +1,21 @@
 -- The packets that are lent, one at a time. Assumes nothing.
 use mathlib.Core.Path.{_≡_, refl, sym, ap, ap₂, _∙_}
 use mathlib.Core.List.{List, [], _∷_}
-use mathlib.Core.Bool.{Bool, true, false, _&&_}
+use mathlib.Core.Bool.{Bool, true, false}
 use Prim.Native.Nat.{ℕ, zero, suc, _+_, _-_, _≤_, _<_}
-use native.Mathlib.Numerals.{add-one}
 use native.Mathlib.Omega.{arith}
-use lib.ListN.{length, take, drop, getD, length-drop, drop-of-length-le}
-use lib.Seq.{drop-drop, drop-cons, take-nil}
+use lib.ListN.{length, take, drop, length-drop, drop-of-length-le}
+use lib.Seq.{drop-drop, take-nil}
 use lib.Dec.{eqb}
 use borrow.Author.Tests.{eq-eqb, ne-eqb}
 use Rattle.laws.specs.Scan.{all}
 use Rattle.laws.proofs.Cases.{and-yes, and-no}
+use Rattle.laws.proofs.Lists.{same-long}
 use Rattle.size.specs.Size.{packetSize}
 use Rattle.packet.specs.Reading.{bodyOf, textAnswer}
 use Rattle.story.specs.Telling.{headOf}
-use Rattle.story.specs.Joining.{cut, setIn, isPart, same, headed, withHead}
+use Rattle.story.specs.Joining.{cut, setIn, isPart, headed, withHead}
+use Rattle.laws.specs.Lists.{same}
 use Rattle.join.specs.Places.{pieceAt}
 
 cut-some : (k : ℕ) (l : List ℕ) → 1 ≤ length l → cut (suc k) l ≡ take (packetSize l) l ∷ cut k (drop (packetSize l) l)
@@ -65,30 +66,6 @@ parts-end = refl
 pub head-end : (h : List ℕ) → withHead h [] ≡ []
 unfolding withHead
 head-end h = refl
-
--- ---- the same bytes
-pub same-next : (a b : List ℕ) (i : ℕ) → i < length a → i < length b → getD a i 0 ≡ getD b i 0 → same (drop i a) (drop i b) ≡ same (drop (i + 1) a) (drop (i + 1) b)
-unfolding same
-same-next a b i h g e = rw (add-one i, drop-cons a i 0 h, drop-cons b i 0 g, eq-eqb (getD a i 0) (getD b i 0) e)
-
-pub same-stop : (a b : List ℕ) (i : ℕ) → i < length a → i < length b → (getD a i 0 ≡ getD b i 0 → ⊥) → same (drop i a) (drop i b) ≡ false
-unfolding same
-same-stop a b i h g e = rw (drop-cons a i 0 h, drop-cons b i 0 g, ne-eqb (getD a i 0) (getD b i 0) e)
-
-pub same-end : (a b : List ℕ) (i : ℕ) → length a ≡ length b → length a ≤ i → same (drop i a) (drop i b) ≡ true
-unfolding same
-same-end a b i e h = rw (drop-of-length-le a {i = i} h, drop-of-length-le b {i = i} (omega arith))
-
-pub same-long : (a b : List ℕ) → (length a ≡ length b → ⊥) → same a b ≡ false
-unfolding same
-same-long [] [] h = absurd (h refl)
-same-long [] (y ∷ b) h = refl
-same-long (x ∷ a) [] h = refl
-same-long (x ∷ a) (y ∷ b) h = last (eqb x y) (same-long a b (λ e. h (ap suc e)))
-  where
-    last : (t : Bool) → same a b ≡ false → (t && same a b) ≡ false
-    last true e = e
-    last false e = refl
 
 pub not-four : (w x y z : ℕ) (l : List ℕ) → (length l ≡ 4 → ⊥) → same (w ∷ x ∷ y ∷ z ∷ []) l ≡ false
 not-four w x y z l h = same-long (w ∷ x ∷ y ∷ z ∷ []) l (λ e. h (sym e))

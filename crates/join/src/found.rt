@@ -67,7 +67,7 @@ fn is_after(d: [u8; 35], first: [u8; 35], k: usize) -> bool
     requires { ⌜ k < 9 ⌝ }
     ensures { λ r. ⌜ r ≡ isAfter d first k ⌝ }
 {
-    if !crate::same_bytes(&d[0..31], &first[0..31]) {
+    if !octets::same_bytes(&d[0..31], &first[0..31]) {
         return false;
     }
     story::last_four(&d) as usize == story::last_four(&first) as usize + k

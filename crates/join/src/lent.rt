@@ -95,7 +95,7 @@ fn headed(b: &[u8], k: usize, n: usize) -> bool
         return false;
     }
     let h = [(49 + k) as u8, 47, (48 + n) as u8, 32];
-    crate::same_bytes(&h, u)
+    octets::same_bytes(&h, u)
 }
 
 // Where the first of the parts with that head begins; the end where there is none.

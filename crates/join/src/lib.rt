@@ -4,7 +4,7 @@ mod lent;
 
 ghost use mathlib.Core.Path.{_≡_};
 ghost use lib.ListN.{length};
-ghost use Rattle.story.specs.Joining.{isPart, same, joined, joinOutput};
+ghost use Rattle.story.specs.Joining.{isPart, joined, joinOutput};
 use story::Joined;
 
 // Whether the reader takes it as a text, and that in set 0: the set stands 4 bits into the content.
@@ -16,24 +16,6 @@ pub fn is_part(packet: &[u8]) -> bool
     }
     let n = format::field(packet, 16, 8) as usize;
     format::field(packet, 28 + 96 * n, 4) == 0
-}
-
-// Whether two lists are the same.
-pub fn same_bytes(a: &[u8], b: &[u8]) -> bool
-    ensures { λ r. ⌜ r ≡ same (now (a .entry)) (now (b .entry)) ⌝ }
-{
-    let n = a.len();
-    if b.len() != n {
-        return false;
-    }
-    let mut i: usize = 0;
-    while i < n {
-        if a[i] != b[i] {
-            return false;
-        }
-        i += 1;
-    }
-    true
 }
 
 fn refused(answer: u8) -> Joined

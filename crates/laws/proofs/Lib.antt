@@ -12,3 +12,4 @@ pub mod ByteFields
 pub mod Words
 pub mod Writes
 pub mod Parts
+pub mod Lists

@@ -3,3 +3,4 @@ pub mod Below
 pub mod Refusals
 pub mod Scan
 pub mod Bits
+pub mod Lists

@@ -37,9 +37,9 @@ index-is bits letter =
     xor-assoc s o k ∙ ap (λ (x : ℕ). s ⊕ x) (xor-comm o k) ∙ sym (xor-assoc s k o)
     ∙ ap (λ (x : ℕ). x ⊕ o) (sym (syndrome-block (bits / 2 ^ 10) k (mod-lt bits (pow-pos 10))) ∙ ap syndrome (split bits 10))
 
-pub index-found : (bits : ℕ) (letter : Letter) (o w : ℕ) → o ≡ offsetOf letter → w ≡ checkWord (bits / 2 ^ 10) o → w ⊕ bits % 2 ^ 10 ≡ indexOf bits letter
-index-found bits letter o w p q =
-    ap (λ (x : ℕ). x ⊕ bits % 2 ^ 10) (q ∙ ap (checkWord (bits / 2 ^ 10)) p) ∙ index-is bits letter
+pub index-found : (bits : ℕ) (letter : Letter) (o r : ℕ) → o ≡ offsetOf letter → r ≡ syndrome (bits / 2 ^ 10 * 2 ^ 10) → (r ⊕ o) ⊕ bits % 2 ^ 10 ≡ indexOf bits letter
+unfolding checkWord
+index-found bits letter o r p q = ap₂ (λ (x y : ℕ). (x ⊕ y) ⊕ bits % 2 ^ 10) q p ∙ index-is bits letter
 
 pub index-lt : (bits : ℕ) (letter : Letter) → indexOf bits letter < 2 ^ 10
 index-lt bits letter =

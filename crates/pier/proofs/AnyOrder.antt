@@ -14,7 +14,8 @@ use Rattle.laws.proofs.Below.{below-no}
 use Rattle.laws.proofs.Cases.{if-yes, if-no, and-yes, and-no, and-both, or-yes, or-no}
 use Rattle.laws.proofs.Elements.{by-test}
 use Rattle.laws.proofs.Refusals.{pass, stop}
-use Rattle.story.specs.Joining.{isPart, same}
+use Rattle.story.specs.Joining.{isPart}
+use Rattle.laws.specs.Lists.{same}
 use Rattle.stories.specs.declared.Part.{Part}
 use Rattle.stories.specs.declared.Tale.{Tale}
 use Rattle.stories.specs.declared.Stories.{Stories}

@@ -14,25 +14,16 @@ use Rattle.laws.proofs.Elements.{by-test, index-yes, index-no}
 use Rattle.packet.specs.Table.{rowOf}
 use Rattle.packet.specs.Reading.{codesIn, formIn, countOf, partAt, hasEntries, partBy, readAnswer, textAnswer, bodyOf}
 use Rattle.packet.proofs.Accepted.{accepted, text-there, text-from, body-inside}
-use Rattle.story.specs.Joining.{isPart, setIn, same, headed, digitsOf}
+use Rattle.story.specs.Joining.{isPart, setIn, headed, digitsOf}
+use Rattle.laws.specs.Lists.{same}
 use Rattle.story.specs.Telling.{headOf}
-use Rattle.story.proofs.Placed.{same-self}
+use Rattle.laws.proofs.Lists.{same-self, same-eq}
 use Rattle.stories.specs.declared.Part.{Part}
 use Rattle.stories.specs.declared.Tale.{Tale}
 use Rattle.stories.specs.Parts.{partIn, totalIn, rightHead, inReach, belongs, partOf, textOf}
 use Rattle.stories.specs.Tales.{isStory}
 use Rattle.pier.specs.Given.{sameStory, came, given}
 use Rattle.pier.proofs.Lists.{find, find-no, find-yes, one, count}
-
--- ---- the same bytes are equal
-pub same-eq : (a b : List ℕ) → same a b ≡ true → a ≡ b
-unfolding same
-same-eq [] [] e = refl
-same-eq [] (y ∷ ys) e = absurd (false≢true e)
-same-eq (x ∷ xs) [] e = absurd (false≢true e)
-same-eq (x ∷ xs) (y ∷ ys) e =
-    let q = and-both (eqb x y) (same xs ys) e in
-    ap₂ (λ (n : ℕ) (l : List ℕ). n ∷ l) (eqb-true x y (q .0)) (same-eq xs ys (q .1))
 
 pub story-self : (x : Part) → sameStory x x ≡ true
 story-self x = and-yes _ (same-self (x .number)) ∙ eq-eqb (x .total) (x .total) refl

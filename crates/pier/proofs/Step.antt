@@ -13,8 +13,9 @@ use Rattle.laws.proofs.Below.{at-each}
 use Rattle.laws.proofs.Cases.{if-yes, if-no, and-yes, and-both, or-yes, or-no}
 use Rattle.laws.proofs.Elements.{by-test}
 use Rattle.laws.proofs.Refusals.{pass, stop}
-use Rattle.story.specs.Joining.{isPart, same}
-use Rattle.story.proofs.Placed.{same-self}
+use Rattle.story.specs.Joining.{isPart}
+use Rattle.laws.specs.Lists.{same}
+use Rattle.laws.proofs.Lists.{same-self}
 use Rattle.stories.specs.declared.Part.{Part}
 use Rattle.stories.specs.declared.Tale.{Tale}
 use Rattle.stories.specs.declared.Stories.{Stories}

@@ -15,10 +15,12 @@ use Rattle.laws.proofs.Cases.{if-yes, if-no, and-yes, or-yes}
 use Rattle.laws.proofs.Elements.{by-test}
 use Rattle.laws.proofs.Refusals.{pass, stop}
 use Rattle.packet.specs.Reading.{bodyOf}
-use Rattle.story.specs.Characters.{together}
+use Rattle.laws.specs.Lists.{together}
 use Rattle.story.specs.Telling.{headOf, lastFour, fourOf, numberAfter}
-use Rattle.story.specs.Joining.{digitsOf, same, headed}
-use Rattle.story.proofs.Placed.{same-self, number-last, number-first, Reads}
+use Rattle.story.specs.Joining.{digitsOf, headed}
+use Rattle.laws.specs.Lists.{same}
+use Rattle.story.proofs.Placed.{number-last, number-first, Reads}
+use Rattle.laws.proofs.Lists.{same-self}
 use Rattle.stories.specs.declared.Part.{Part}
 use Rattle.stories.specs.Parts.{partIn, totalIn, rightHead, inReach, firstNumber, belongs, partOf, textOf}
 use Rattle.order.specs.Given.{isSome}

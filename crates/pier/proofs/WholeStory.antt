@@ -30,7 +30,8 @@ use Rattle.packet.proofs.Accepted.{Accepted, accepted, text-there}
 use Rattle.trips.proofs.There.{packet-is}
 use Rattle.story.specs.declared.Story.{Story}
 use Rattle.story.specs.Given.{Given}
-use Rattle.story.specs.Characters.{together, parted, characters}
+use Rattle.story.specs.Characters.{parted, characters}
+use Rattle.laws.specs.Lists.{together}
 use Rattle.story.specs.Telling.{roomWith, lastFour, partFields, partBody, partTexts, partCount, packetsOf, toldAnswer, told}
 use Rattle.story.specs.Joining.{isPart, setIn}
 use Rattle.story.proofs.Whole.{whole-characters}

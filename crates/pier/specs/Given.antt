@@ -7,7 +7,8 @@ use mathlib.Core.Option.{Option, none, some}
 use lib.Dec.{eqb}
 use Rattle.laws.specs.Below.{below}
 use Rattle.laws.specs.Refusals.{Case, first}
-use Rattle.story.specs.Joining.{isPart, same}
+use Rattle.story.specs.Joining.{isPart}
+use Rattle.laws.specs.Lists.{same}
 use Rattle.stories.specs.declared.Part.{Part}
 use Rattle.stories.specs.declared.Stories.{Stories}
 use Rattle.stories.specs.Parts.{belongs, partOf, textOf}

@@ -7,15 +7,10 @@ use libc::STDIN_FILENO;
 use libc::STDOUT_FILENO;
 use story::Story;
 
-// A byte; 0 past the end.
-fn byte(b: &[u8], i: usize) -> u8 {
-    if i < b.len() { b[i] } else { 0 }
-}
-
 fn codes_length(b: &[u8]) -> usize
     ensures { λ r. ⌜ r ≤ 6000 ⌝ }
 {
-    byte(b, 3) as usize * 23
+    octets::byte(b, 3) as usize * 23
 }
 
 fn story(b: &[u8]) -> Story {
@@ -26,9 +21,9 @@ fn story(b: &[u8]) -> Story {
     format::fields(b, 344, 12, 8, &mut certificate, 0);
     format::fields(b, 440, 64, 8, &mut signature, 0);
     Story {
-        kind: byte(b, 2),
+        kind: octets::byte(b, 2),
         digits: digits,
-        codes: byte(b, 3) as usize,
+        codes: octets::byte(b, 3) as usize,
         time: format::field(b, 312, 32),
         certificate: certificate,
         signature: signature,
@@ -91,8 +86,8 @@ fn send(b: &[u8]) {
     put_all(
         format::part(&packets, 0, told.length),
         told.parts,
-        byte(b, 0),
-        byte(b, 1),
+        octets::byte(b, 0),
+        octets::byte(b, 1),
     );
 }
 

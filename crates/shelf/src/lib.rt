@@ -4,7 +4,7 @@ mod summary;
 ghost use mathlib.Core.Path.{_≡_};
 ghost use mathlib.Core.List.{[], _∷_, _++_};
 ghost use Prim.Native.Nat.{_+_, _-_, _≤_};
-ghost use lib.ListN.{length, getD, replicate};
+ghost use lib.ListN.{length, replicate};
 ghost use lib.Dec.{eqb};
 ghost use lib.Seq.{sets};
 ghost use Rattle.laws.specs.Scan.{all};
@@ -16,13 +16,6 @@ ghost use Rattle.shelf.specs.Shelf.{whole, allRight, shelfAnswer, addAns
 pub struct Written {
     pub answer: u8,
     pub length: usize,
-}
-
-// Byte `i`, and 0 where there is none.
-pub(crate) fn byte(b: &[u8], i: usize) -> u8
-    ensures { λ r. ⌜ r ≡ getD (now (b .entry)) i 0 ⌝ }
-{
-    if i < b.len() { b[i] } else { 0 }
 }
 
 // Whether every byte is this one.
@@ -52,13 +45,13 @@ fn is_reserved(level: u8) -> bool
 fn is_right(given: &[u8]) -> bool
     ensures { λ r. ⌜ r ≡ right (now (given .entry)) ⌝ }
 {
-    if is_reserved(byte(given, 0)) {
+    if is_reserved(octets::byte(given, 0)) {
         return false;
     }
-    if byte(given, 1) > 31 {
+    if octets::byte(given, 1) > 31 {
         return false;
     }
-    let size = byte(given, 2) as usize * 256 + byte(given, 3) as usize;
+    let size = octets::byte(given, 2) as usize * 256 + octets::byte(given, 3) as usize;
     if size < 2 {
         return false;
     }
@@ -229,10 +222,10 @@ pub fn line(given: &[u8], out: &mut [u8]) -> Written
             length: 0,
         };
     }
-    let size = byte(given, 2) as usize * 256 + byte(given, 3) as usize;
+    let size = octets::byte(given, 2) as usize * 256 + octets::byte(given, 3) as usize;
     let n = lines::record_line(
-        byte(given, 0),
-        byte(given, 1),
+        octets::byte(given, 0),
+        octets::byte(given, 1),
         format::part(given, 4, size),
         out,
     );

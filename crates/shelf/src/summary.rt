@@ -1,5 +1,4 @@
 // The summary: 32 entries of eight bytes, one per type.
-use crate::byte;
 ghost use mathlib.Core.Path.{_≡_};
 ghost use mathlib.Core.List.{[]};
 ghost use Prim.Native.Nat.{_+_, _/_, _<_, _≤_};
@@ -20,10 +19,10 @@ fn word_at(summary: &[u8], at: usize) -> u32
     requires { ⌜ at < 65536 ⌝ }
     ensures { λ r. ⌜ r ≡ wordAt (now (summary .entry)) at ⌝ }
 {
-    let a = byte(summary, at) as u32;
-    let b = byte(summary, at + 1) as u32;
-    let c = byte(summary, at + 2) as u32;
-    let d = byte(summary, at + 3) as u32;
+    let a = octets::byte(summary, at) as u32;
+    let b = octets::byte(summary, at + 1) as u32;
+    let c = octets::byte(summary, at + 2) as u32;
+    let d = octets::byte(summary, at + 3) as u32;
     ((a * 256 + b) * 256 + c) * 256 + d
 }
 

@@ -14,8 +14,9 @@ use Rattle.packet.specs.Table.{rowOf}
 use Rattle.packet.specs.Reading.{codesIn, formIn, countOf, partAt, hasEntries, readAnswer, partBy, bodyOf}
 use Rattle.packet.proofs.Accepted.{accepted, body-inside, text-from}
 use Rattle.story.specs.Telling.{headOf, lastFour}
-use Rattle.story.specs.Joining.{same, headed, digitsOf, isPart}
-use Rattle.join.proofs.Cuts.{same-long}
+use Rattle.story.specs.Joining.{headed, digitsOf, isPart}
+use Rattle.laws.specs.Lists.{same}
+use Rattle.laws.proofs.Lists.{same-long}
 use Rattle.join.proofs.Bodies.{part-text}
 use Rattle.stories.specs.declared.Part.{Part}
 use Rattle.stories.specs.Parts.{partIn, totalIn, rightHead, inReach, firstNumber, belongs, partOf}

@@ -13,7 +13,7 @@ use Rattle.laws.proofs.Cases.{if-yes, if-no, and-yes, and-no, and-both, or-yes,
 use Rattle.laws.proofs.Elements.{by-test, all-at}
 use Rattle.laws.proofs.Below.{below-yes, below-no}
 use Rattle.laws.proofs.Writes.{sets-append, from-front}
-use Rattle.story.specs.Joining.{same}
+use Rattle.laws.specs.Lists.{same}
 use Rattle.story.proofs.Copying.{copied-in}
 use Rattle.stories.specs.declared.Part.{Part}
 use Rattle.stories.specs.declared.Tale.{Tale}

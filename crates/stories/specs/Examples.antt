@@ -6,7 +6,7 @@ use Prim.Native.Nat.{ℕ}
 use lib.ListN.{replicate}
 use Rattle.laws.specs.Scan.{all, indexOf}
 use Rattle.laws.specs.Below.{below}
-use Rattle.story.specs.Joining.{same}
+use Rattle.laws.specs.Lists.{same}
 use Rattle.stories.specs.declared.Part.{Part}
 use Rattle.stories.specs.declared.Tale.{Tale}
 use Rattle.stories.specs.Tales.{zeros, isStory, fair, isHeard, textAt, holdsText, contradicts, isWhole, textsFrom, wholeText, opened}

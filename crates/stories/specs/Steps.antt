@@ -8,7 +8,7 @@ use lib.Seq.{sets}
 use lib.Dec.{leb}
 use Rattle.laws.specs.Scan.{all}
 use Rattle.story.specs.Telling.{headOf}
-use Rattle.story.specs.Joining.{same}
+use Rattle.laws.specs.Lists.{same}
 use Rattle.stories.specs.declared.Part.{Part}
 use Rattle.stories.specs.declared.Tale.{Tale}
 use Rattle.stories.specs.declared.Stories.{Stories}

@@ -7,7 +7,7 @@ use lib.Seq.{sets}
 use lib.Dec.{leb, eqb}
 use Rattle.laws.specs.Below.{below}
 use Rattle.laws.specs.Scan.{all}
-use Rattle.story.specs.Joining.{same}
+use Rattle.laws.specs.Lists.{same}
 use Rattle.stories.specs.declared.Part.{Part}
 use Rattle.stories.specs.declared.Tale.{Tale}
 

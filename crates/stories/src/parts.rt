@@ -36,7 +36,7 @@ fn right_head(t: &[u8], k: u8, n: u8) -> bool
         return false;
     }
     let h = [48 + k, 47, 48 + n, 32];
-    join::same_bytes(&h, &t[0..4])
+    octets::same_bytes(&h, &t[0..4])
 }
 
 // Whether the numbers of the parts before and behind have four digits too.

@@ -4,7 +4,7 @@ ghost use mathlib.Core.Bool.{true, _&&_};
 ghost use Prim.Native.Nat.{_+_, _-_, _<_, _≤_};
 ghost use lib.ListN.{length, getD};
 ghost use lib.Seq.{sets};
-ghost use Rattle.story.specs.Joining.{same};
+ghost use Rattle.laws.specs.Lists.{same};
 ghost use Rattle.stories.specs.Tales.{untold as untoldTale, isStory, fair, textAt, holdsText, isWhole, wholeText, takenFor, withText, opened};
 ghost use Rattle.stories.specs.Steps.{allShort, Steady};
 use crate::Part;
@@ -51,7 +51,7 @@ pub(crate) fn is_story(p: Tale, x: Part) -> bool
     }
     let a = p.number;
     let b = x.number;
-    if !join::same_bytes(&a, &b) {
+    if !octets::same_bytes(&a, &b) {
         return false;
     }
     p.total == x.total
@@ -106,7 +106,7 @@ fn same_text(p: Tale, k: usize, text: &[u8]) -> bool
     let n = size_at(p, k);
     let at = 149 * k;
     let b = p.bytes;
-    join::same_bytes(&b[at..at + n], text)
+    octets::same_bytes(&b[at..at + n], text)
 }
 
 // Whether the part was heard before, with this text.

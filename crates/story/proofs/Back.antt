@@ -19,7 +19,8 @@ use Rattle.packet.specs.Reading.{isUnknown}
 use Rattle.packet.specs.Writing.{sizeFor, bytesFor, countBad, digitBad, notTaken, writtenAnswer, outputBy}
 use Rattle.trips.specs.Given.{Typed}
 use Rattle.story.specs.declared.Story.{Story}
-use Rattle.story.specs.Characters.{lone, together, characters, parted}
+use Rattle.story.specs.Characters.{lone, characters, parted}
+use Rattle.laws.specs.Lists.{together}
 use Rattle.story.specs.Telling.{headOf, roomWith, lastFour, partFields, partBody, partPacket, ownCases, partTexts, partCount, packetsFrom, packetsOf, bytesOf, toldAnswer, toldBy, told, tellOutput}
 use Rattle.story.specs.Joining.{lent, textIn, texts, inOrder, joinable, joinAnswer, joinedBy, joined, joinOutput}
 use Rattle.order.specs.Given.{Rearranged}

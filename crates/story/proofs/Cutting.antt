@@ -15,7 +15,7 @@ use Rattle.laws.proofs.Bits.{at-left, length-spread, spread-append}
 use Rattle.laws.proofs.Cases.{and-both}
 use Rattle.laws.proofs.Elements.{all-head, all-tail}
 use Rattle.size.specs.Size.{packetSize}
-use Rattle.story.specs.Characters.{together}
+use Rattle.laws.specs.Lists.{together}
 use Rattle.story.specs.Joining.{cut}
 
 -- as long as it says itself

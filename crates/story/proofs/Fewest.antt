@@ -9,7 +9,8 @@ use lib.Dec.{leb}
 use borrow.Author.Tests.{leb-true, leb-false, le-leb}
 use Rattle.laws.specs.Scan.{all}
 use Rattle.laws.proofs.Elements.{by-test, all-head, all-tail}
-use Rattle.story.specs.Characters.{together, deal, characters, parted}
+use Rattle.story.specs.Characters.{deal, characters, parted}
+use Rattle.laws.specs.Lists.{together}
 use Rattle.story.specs.Divisions.{Division}
 use Rattle.story.proofs.Dealing.{deal-none, long-fits, long-over}
 

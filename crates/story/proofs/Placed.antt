@@ -12,9 +12,11 @@ use Rattle.laws.specs.Scan.{all}
 use Rattle.laws.proofs.Cases.{and-yes}
 use Rattle.laws.proofs.Elements.{by-test, all-cons}
 use Rattle.packet.specs.Reading.{bodyOf}
-use Rattle.story.specs.Characters.{together}
+use Rattle.laws.specs.Lists.{together}
+use Rattle.laws.proofs.Lists.{same-self}
 use Rattle.story.specs.Telling.{headOf, lastFour, fourOf, numberAfter}
-use Rattle.story.specs.Joining.{isPart, digitsOf, same, headed, found, inOrder, inStep, allInStep, joinable, texts}
+use Rattle.story.specs.Joining.{isPart, digitsOf, headed, found, inOrder, inStep, allInStep, joinable, texts}
+use Rattle.laws.specs.Lists.{same}
 use Rattle.order.specs.Given.{Rearranged}
 use Rattle.story.proofs.Shuffled.{length-same, all-same, tally, with-yes, with-no, head-same}
 use Rattle.story.proofs.Cutting.{stated}
@@ -45,11 +47,6 @@ number-last ds k l h =
 pub number-first : (ds : List ℕ) (k : ℕ) → 31 ≤ length ds → take 31 (numberAfter ds k) ≡ take 31 ds
 unfolding numberAfter
 number-first ds k l = take-at (take 31 ds) (fourOf (lastFour ds + k)) 31 (length-take-le 31 ds l)
-
-pub same-self : (l : List ℕ) → same l l ≡ true
-unfolding same
-same-self [] = refl
-same-self (x ∷ l) = and-yes (same l l) (eq-eqb x x refl) ∙ same-self l
 
 -- ---- a packet that reads as the part of n with k before it, with the text p
 pub record Reads (n : ℕ) (ds : List ℕ) (k : ℕ) (b p : List ℕ) : Type 0 where

@@ -21,11 +21,6 @@ lone [] = false
 lone (x ∷ []) = wide x
 lone (x ∷ y ∷ l) = cond (wide x) (lone l) (lone (y ∷ l))
 
--- lists one behind the other
-unfoldable pub together : {A : Type 0} → List (List A) → List A
-together [] = []
-together (l ∷ ls) = l ++ together ls
-
 -- ---- dealing out
 -- the first part gets the character c before what it has
 abbrev pub onto : List ℕ → List (List ℕ) → List (List ℕ)

@@ -6,7 +6,7 @@ use mathlib.Core.Bool.{true}
 use lib.ListN.{length}
 use lib.Dec.{leb}
 use Rattle.laws.specs.Scan.{all}
-use Rattle.story.specs.Characters.{together}
+use Rattle.laws.specs.Lists.{together}
 
 -- characters cs, in their order, in parts of which each has room for r bytes: one part or more, whatever each of them takes
 pub record Division (r : ℕ) (cs : List (List ℕ)) : Type 0 where

@@ -1,11 +1,12 @@
 -- Packets lent in any order as one text, and what joining them answers (paper 02, K1).
 use Prim.Native.Nat.{ℕ, zero, suc, _+_}
 use mathlib.Core.List.{List, [], _∷_, _++_}
-use mathlib.Core.Bool.{Bool, true, false, cond, not, _&&_}
+use mathlib.Core.Bool.{Bool, true, cond, not, _&&_}
 use lib.ListN.{length, take, drop, getD}
 use lib.Dec.{leb, ltb, eqb}
 use Rattle.laws.specs.Refusals.{Case, first}
 use Rattle.laws.specs.Scan.{all}
+use Rattle.laws.specs.Lists.{same}
 use Rattle.size.specs.Size.{packetSize}
 use Rattle.packet.specs.Content.{numbersOf}
 use Rattle.packet.specs.Reading.{opened, bodyOf, textAnswer}
@@ -35,13 +36,6 @@ isPart b = eqb (textAnswer b) 0 && eqb (setIn b) 0
 -- its message number
 abbrev pub digitsOf : List ℕ → List ℕ
 digitsOf b = opened b .fields .digits
-
--- the same bytes
-unfoldable pub same : List ℕ → List ℕ → Bool
-same [] [] = true
-same [] (y ∷ ys) = false
-same (x ∷ xs) [] = false
-same (x ∷ xs) (y ∷ ys) = eqb x y && same xs ys
 
 -- its body begins with the head h
 unfoldable pub headed : List ℕ → List ℕ → Bool

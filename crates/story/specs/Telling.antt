@@ -9,7 +9,8 @@ use Rattle.packet.specs.declared.Fields.{Fields}
 use Rattle.packet.specs.Writing.{writeCases, bytesFor, outputBy}
 use Rattle.story.specs.declared.Story.{Story}
 use Rattle.story.specs.declared.Told.{Told}
-use Rattle.story.specs.Characters.{lone, parted, together}
+use Rattle.story.specs.Characters.{lone, parted}
+use Rattle.laws.specs.Lists.{together}
 
 -- ---- a part's head: part digit, '/', total digit, space
 abbrev pub headOf : ℕ → ℕ → List ℕ

@@ -1,7 +1,7 @@
 // A text longer than a packet: what is told, what telling and joining give back. The functions are in `tell` and `join`.
 ghost use mathlib.Core.Path.{_≡_};
 ghost use mathlib.Core.List.{_++_};
-ghost use lib.ListN.{getD, take};
+ghost use lib.ListN.{take};
 ghost use Rattle.story.specs.Telling.{lastFour, fourOf};
 
 // What every part of a story has: kind of text, number of the first part, count of codes, time, certificate, signature.
@@ -27,21 +27,14 @@ pub struct Joined {
     pub length: usize,
 }
 
-// A byte; 0 past the end.
-fn byte(b: &[u8], i: usize) -> u8
-    ensures { λ r. ⌜ r ≡ getD (now (b .entry)) i 0 ⌝ }
-{
-    if i < b.len() { b[i] } else { 0 }
-}
-
 // The last four digits of a message number, as a number.
 pub fn last_four(digits: &[u8]) -> u32
     ensures { λ r. ⌜ r ≡ lastFour (now (digits .entry)) ⌝ }
 {
-    let a = byte(digits, 31);
-    let b = byte(digits, 32);
-    let c = byte(digits, 33);
-    let d = byte(digits, 34);
+    let a = octets::byte(digits, 31);
+    let b = octets::byte(digits, 32);
+    let c = octets::byte(digits, 33);
+    let d = octets::byte(digits, 34);
     a as u32 * 1000 + b as u32 * 100 + c as u32 * 10 + d as u32
 }
 

@@ -20,7 +20,8 @@ use Rattle.packet.specs.Reading.{isUnknown}
 use Rattle.packet.specs.Writing.{sizeFor, countBad, digitBad, notTaken, writtenAnswer, outputBy}
 use Rattle.story.specs.declared.Story.{Story}
 use Rattle.story.specs.declared.Told.{Told}
-use Rattle.story.specs.Characters.{characters, lone, together, parted}
+use Rattle.story.specs.Characters.{characters, lone, parted}
+use Rattle.laws.specs.Lists.{together}
 use Rattle.story.specs.Telling.{headOf, roomWith, lastFour, ownCases, laterCases, partTexts, partCount, partPacket, packetsFrom, packetsOf, bytesOf, toldAnswer, toldBy, told, tellOutput}
 use Rattle.story.proofs.Dealing.{some-part}
 use Rattle.story.proofs.Whole.{whole-characters}

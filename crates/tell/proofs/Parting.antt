@@ -15,7 +15,8 @@ use Rattle.laws.proofs.Elements.{by-test, all-cons, all-head, all-tail}
 use Rattle.laws.proofs.Writes.{sets-append}
 use Rattle.laws.proofs.Parts.{in-part, part-is}
 use Rattle.story.specs.declared.Story.{Story}
-use Rattle.story.specs.Characters.{characters, together, onto, deal, parted}
+use Rattle.story.specs.Characters.{characters, onto, deal, parted}
+use Rattle.laws.specs.Lists.{together}
 use Rattle.story.specs.Telling.{roomWith, partTexts, partPacket, packetsFrom, packetsOf, bytesOf}
 use Rattle.story.proofs.Dealing.{deal-none, deal-fits, deal-over, some-part}
 use Rattle.story.proofs.Whole.{together-chars}

@@ -6,7 +6,7 @@ use Prim.Native.Nat.{ℕ}
 use native.Mathlib.Omega.{arith}
 use lib.ListN.{length}
 use denote.Ref.{now}
-use Rattle.story.specs.Joining.{same}
+use Rattle.laws.specs.Lists.{same}
 use Rattle.stories.proofs.Texts.{text-is}
 use borrow.Author.Needs.{needs}
 use Rattle.stories.proofs.tales.same_text.Statement.{statement}

@@ -1,13 +1,13 @@
--- `join::same_bytes` meets its contract. Assumes nothing.
+-- `octets::same_bytes` meets its contract. Assumes nothing.
 use mathlib.Core.Path.{_≡_, refl, sym, _∙_}
 use native.Mathlib.Omega.{arith}
 use Prim.Native.Nat.{_-_, _≤_}
 use lib.ListN.{length, drop}
-use Rattle.story.specs.Joining.{same}
-use Rattle.join.proofs.Cuts.{same-next, same-stop, same-end, same-long}
+use Rattle.laws.specs.Lists.{same}
+use Rattle.laws.proofs.Lists.{same-next, same-stop, same-end, same-long}
 use borrow.Author.Needs.{needs}
-use Rattle.join.proofs.same_bytes.Statement.{statement}
-use Rattle.join.proofs.same_bytes.Tie as tie
+use Rattle.octets.proofs.same_bytes.Statement.{statement}
+use Rattle.octets.proofs.same_bytes.Tie as tie
 
 abbrev Inv-loop : tie.InvT-loop
 Inv-loop a b n i₀ i = (same a b ≡ same (drop i a) (drop i b)) × (i ≤ n) × (n ≡ length a) × (length a ≡ length b)

@@ -1,10 +1,10 @@
--- `shelf::byte` meets its contract. Assumes nothing.
+-- `octets::byte` meets its contract. Assumes nothing.
 use lib.ListN.{List·getD-eq-default}
 use mathlib.Core.Path.{sym}
 use denote.Ref.{now}
 use borrow.Author.Needs.{needs}
-use Rattle.shelf.proofs.byte.Statement.{statement}
-use Rattle.shelf.proofs.byte.Tie as tie
+use Rattle.octets.proofs.byte.Statement.{statement}
+use Rattle.octets.proofs.byte.Tie as tie
 
 shared-slice-read-result : tie.Need-shared-slice-read-result
 shared-slice-read-result c = search needs
