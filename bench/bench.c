@@ -1,5 +1,7 @@
 /* Ours beside plain C: the same inputs to both, first that they agree, then how long each takes. See docs/PERFORMANCE.md. */
+#include "packet.h"
 #include "plain.h"
+#include "shared.h"
 
 /* Ours, from the static library of crates/radio. A slice is its first byte's address and its length. */
 struct radio {
@@ -27,17 +29,15 @@ struct plain_decided radio_decide(struct plain_pair state, const double *symbol,
 struct timespec {
     long seconds, nanos;
 };
-extern int printf(const char *form, ...);
 extern int clock_gettime(int clock, struct timespec *now);
 extern int strcmp(const char *a, const char *b);
-extern int memcmp(const void *a, const void *b, size_t n);
 enum { OWN_TIME = 2 };
 
-enum { ROUNDS = 7, PIECE = 512, MOST = 2000 * PIECE, ROOM = 320, COUNTS = 40 };
+enum { PIECE = 512, MOST = 2000 * PIECE, ROOM = 320, COUNTS = 40 };
 static uint8_t air[MOST];
 
 static uint64_t seed = 0x9E3779B97F4A7C15;
-static uint32_t chance(uint32_t below)
+uint32_t chance(uint32_t below)
 {
     seed ^= seed << 13;
     seed ^= seed >> 7;
@@ -149,7 +149,7 @@ static size_t in_c(receive_fn *receive, size_t size, size_t piece)
 }
 
 static int wrong;
-static void differ(const char *where, size_t place)
+void differ(const char *where, size_t place)
 {
     printf("DIFFERENT: %s, at %zu\n", where, place);
     wrong = 1;
@@ -306,14 +306,14 @@ static void symbols_agree(void)
     }
 }
 
-static double now(void)
+double now(void)
 {
     struct timespec t;
     clock_gettime(OWN_TIME, &t);
     return (double)t.seconds * 1e3 + (double)t.nanos / 1e6;
 }
 
-static double median(double *times)
+double median(double *times)
 {
     for (int i = 1; i < ROUNDS; i++)
         for (int k = i; k > 0 && times[k] < times[k - 1]; k--) {
@@ -434,6 +434,8 @@ static const char *const check_names[8] = {"packet check of 2 bytes", "packet ch
 static int only(int way, int kind, size_t times)
 {
     kinds[kind % 3](16 * PIECE);
+    if (kind > 4)
+        return packets_only(way, kind - 5, times) > (size_t)1 << 40;
     size_t sum = kind < 3 ? receiving(way, times * PIECE, PIECE) : kind == 3 ? checking(way, 250, times) : sending(way, 250, times);
     return sum > (size_t)1 << 40;
 }
@@ -455,13 +457,18 @@ int main(int argc, char **argv)
     refusals_agree();
     make_symbols();
     symbols_agree();
+    packets_agree();
     if (wrong)
         return 1;
-    printf("ours and the three C programs agree; symbols are decided alike\n");
+    printf("ours and the three C programs agree; symbols are decided alike, packets are read and written alike\n");
     if (argc > 1 && strcmp(argv[1], "--same") == 0)
         return 0;
     if (argc > 1 && strcmp(argv[1], "--symbols") == 0) {
         measure_symbols(250);
+        return 0;
+    }
+    if (argc > 1 && strcmp(argv[1], "--packets") == 0) {
+        measure_packets(20000);
         return 0;
     }
     head("bit");
@@ -481,5 +488,6 @@ int main(int argc, char **argv)
     measure("on air, 10000 of 77", sending, 77, 10000, 770000);
     measure("on air, 10000 of 250", sending, 250, 10000, 2500000);
     measure_symbols(250);
+    measure_packets(20000);
     return 0;
 }

@@ -62,7 +62,7 @@ fn codes_length(n: usize) -> usize
 fn first_fields(f: Fields) {
     let digits = f.digits;
     let c = f.content;
-    say::one(b"type", f.kind as u64);
+    say::one(b"type", f.typenumber as u64);
     say::one(b"\ncount", f.codes as u64);
     say::text(b"\ncontent ");
     content(c);

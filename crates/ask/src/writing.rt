@@ -53,7 +53,7 @@ fn fields(b: &[u8]) -> Fields {
     input::fill(format::part(b, 63, 64), &mut signature);
     let c = content(b);
     Fields {
-        kind: octets::byte(b, 1),
+        typenumber: octets::byte(b, 1),
         codes: input::two(b, 2) as usize,
         content: c,
         digits: digits,

@@ -14,8 +14,8 @@ use borrow.Author.Tests.{eq-eqb, ne-eqb, eqb-true, eqb-false, lt-ltb, le-ltb, le
 use Rattle.laws.proofs.Cases.{if-yes, if-no, and-yes, and-no}
 use Rattle.laws.proofs.Elements.{by-test}
 use Rattle.laws.proofs.Writes.{join}
-use Rattle.lines.specs.Lines.{hexOf}
-use Rattle.lines.proofs.Numbers.{at-most-20}
+use Rattle.print.specs.Lines.{hexOf}
+use Rattle.print.proofs.Numbers.{at-most-20}
 use Rattle.shelf.specs.Summary.{recordAt, recordsIn}
 use Rattle.compare.specs.Differences.{Difference, differs, only, firstFrom, unlike, firstByte, ofBoth, ofRecord, below}
 use Rattle.compare.specs.Texts.{recordWord, byteWord, leftWords, rightWords, phrase, pairText, textOf, textsOf, Further}

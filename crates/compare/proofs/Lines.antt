@@ -9,9 +9,9 @@ use lib.Seq.{sets, length-sets}
 use borrow.Rule.Slice.PartMut.{putMid}
 use Rattle.laws.proofs.Writes.{join}
 use Rattle.laws.proofs.Parts.{part-is, in-part}
-use Rattle.lines.specs.Lines.{hexOf}
-use Rattle.lines.specs.Letters.{numberText, numberWritten, numberInto}
-use Rattle.lines.proofs.Numbers.{at-most-20, number-room}
+use Rattle.print.specs.Lines.{hexOf}
+use Rattle.print.specs.Letters.{numberText, numberWritten, numberInto}
+use Rattle.print.proofs.Numbers.{at-most-20, number-room}
 use Rattle.compare.specs.Differences.{Difference, differs, only}
 use Rattle.compare.specs.Texts.{recordWord, byteWord, leftWords, rightWords, phrase, pairText, textOf}
 

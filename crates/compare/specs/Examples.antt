@@ -10,8 +10,8 @@ use Rattle.laws.specs.Below as every
 use Rattle.laws.specs.Refusals.{first}
 use Rattle.frame.specs.Heading.{reserved}
 use Rattle.size.specs.Size.{packetSize}
-use Rattle.lines.specs.Lines.{hexOf}
-use Rattle.lines.specs.Letters.{digitsOf, numberText}
+use Rattle.print.specs.Lines.{hexOf}
+use Rattle.print.specs.Letters.{digitsOf, numberText}
 use Rattle.shelf.specs.Record.{right, recordOf}
 use Rattle.shelf.specs.Shelf.{whole, allRight, shelfCases, shelfAnswer}
 use Rattle.compare.specs.Differences.{differs, only, unlike, firstFrom, firstByte, ofBoth, ofRecord, below, longer, differences}

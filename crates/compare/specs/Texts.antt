@@ -5,8 +5,8 @@ use mathlib.Core.List.{List, [], _∷_, _++_}
 use Prim.Native.Nat.{ℕ, _+_}
 use lib.ListN.{length}
 use lib.Seq.{sets}
-use Rattle.lines.specs.Lines.{hexOf}
-use Rattle.lines.specs.Letters.{numberText}
+use Rattle.print.specs.Lines.{hexOf}
+use Rattle.print.specs.Letters.{numberText}
 use Rattle.compare.specs.Differences.{Difference, differs, only, differences}
 
 -- "record "

@@ -55,7 +55,7 @@ fn put_phrase(words: &[u8], n: usize, ending: &[u8], at: usize, out: &mut [u8]) 
     ensures { λ r. ⌜ (r ≡ at + length (phrase (now (words .entry)) n (now (ending .entry)))) × (now (out .exit) ≡ sets (now (out .entry)) at (phrase (now (words .entry)) n (now (ending .entry)))) ⌝ }
 {
     let from = put_words(words, at, out);
-    let digits = lines::number(n as u64, &mut out[from..]);
+    let digits = print::number(n as u64, &mut out[from..]);
     put_words(ending, from + digits, out)
 }
 
@@ -64,8 +64,8 @@ fn put_differs(n: usize, byte: usize, x: u8, y: u8, at: usize, out: &mut [u8]) -
     requires { ⌜ at + 60 ≤ length (now out) ⌝ }
     ensures { λ r. ⌜ (r ≡ at + length (textOf (differs n byte x y))) × (now (out .exit) ≡ sets (now (out .entry)) at (textOf (differs n byte x y))) ⌝ }
 {
-    let a = lines::hex_of(x);
-    let b = lines::hex_of(y);
+    let a = print::hex_of(x);
+    let b = print::hex_of(y);
     let from = put_phrase(b"record ", n, b" byte ", at, out);
     put_phrase(b"", byte, &[32, a[0], a[1], 32, b[0], b[1], 10], from, out)
 }

@@ -2,3 +2,4 @@ pub mod Tables
 pub mod Round
 pub mod Leaves
 pub mod Sound
+pub mod Within

@@ -1,6 +1,6 @@
 // A table language for formats of bits: what a line of a table is, and the numbers of a table read, tested and written.
 ghost use mathlib.Core.Path.{_≡_};
-ghost use Prim.Native.Nat.{_+_, _*_, _<_, _≤_, _-_, _^_};
+ghost use Prim.Native.Nat.{_+_, _*_, _/_, _%_, _<_, _≤_, _-_, _^_};
 ghost use lib.ListN.{length, getD, set};
 ghost use lib.Seq.{sets};
 ghost use Rattle.laws.specs.Bits.{at, bitsOf, run, spread, bits};
@@ -10,12 +10,12 @@ ghost use Rattle.format.specs.Reach.{reach, partOf, fieldRead, fieldsRea
 // A line: n numbers of w bits, each lo to hi; other is what a reader answers where one is not.
 // A line that is not free has no numbers of its own: each of its numbers is lo.
 pub struct Line {
-    pub n: usize,
-    pub w: usize,
+    pub count: usize,
+    pub width: usize,
     pub lo: u32,
     pub hi: u32,
-    pub other: u8,
-    pub free: bool,
+    pub answer: u8,
+    pub given: bool,
 }
 
 // Numbers that the functions below read and write; past it they read 0 and write nothing.
@@ -55,7 +55,25 @@ fn bit(b: &[u8], i: usize) -> u32
     (x >> ((7 - i % 8) as u32)) % 2
 }
 
-fn read_field(b: &[u8], p: usize, w: usize) -> u32
+// The lowest k bits of a number, all ones.
+fn ones(k: usize) -> u32
+    requires { ⌜ k ≤ 8 ⌝ }
+    ensures { λ r. ⌜ r ≡ 2 ^ k - 1 ⌝ }
+{
+    (1 << (k as u32)) - 1
+}
+
+// The w bits from bit i of a byte on.
+fn bits_within(x: u8, i: usize, w: usize) -> u32
+    requires { ⌜ i + w ≤ 8 ⌝ }
+    ensures { λ r. ⌜ r ≡ x / 2 ^ (8 - (i + w)) % 2 ^ w ⌝ }
+{
+    let m = ones(w);
+    let y = x as u32;
+    (y >> ((8 - (i + w)) as u32)) & m
+}
+
+fn read_bits(b: &[u8], p: usize, w: usize) -> u32
     requires { ⌜ (w ≤ 32) × (p < 80000) ⌝ }
     ensures { λ r. ⌜ r ≡ at (bits (now (b .entry))) p w ⌝ }
 {
@@ -66,6 +84,19 @@ fn read_field(b: &[u8], p: usize, w: usize) -> u32
         j += 1;
     }
     x
+}
+
+// Most numbers lie within a byte, and are read at once.
+fn read_field(b: &[u8], p: usize, w: usize) -> u32
+    requires { ⌜ (w ≤ 32) × (p < 80000) ⌝ }
+    ensures { λ r. ⌜ r ≡ at (bits (now (b .entry))) p w ⌝ }
+{
+    let i = p % 8;
+    if i + w <= 8 {
+        bits_within(octets::byte(b, p / 8), i, w)
+    } else {
+        read_bits(b, p, w)
+    }
 }
 
 // The number of w bits from bit p on.
@@ -154,42 +185,51 @@ pub fn ranged(b: &[u8], p: usize, n: usize, w: usize, lo: u32, hi: u32) -> bool
 
 // ---- writing
 
-// The weight of bit i of a byte.
-fn weight(i: usize) -> u32
-    requires { ⌜ i < 8 ⌝ }
-    ensures { λ r. ⌜ r ≡ 2 ^ (7 - i) ⌝ }
+// x with the lowest w bits of v from its bit i on.
+fn with_field(x: u8, i: usize, w: usize, v: u32) -> u8
+    requires { ⌜ i + w ≤ 8 ⌝ }
+    ensures { λ r. ⌜ r ≡ at (sets (bitsOf 8 x) i (bitsOf w v)) 0 8 ⌝ }
 {
-    1 << ((7 - i) as u32)
-}
-
-// x with v for bit i.
-fn with_bit(x: u8, i: usize, v: u8) -> u8
-    requires { ⌜ (i < 8) × (v < 2) ⌝ }
-    ensures { λ r. ⌜ r ≡ at (set (bitsOf 8 x) i v) 0 8 ⌝ }
-{
-    let m = weight(i);
+    let s = 8 - (i + w);
     let y = x as u32;
-    (y - (y / m % 2) * m + (v as u32) * m) as u8
+    let high = (y >> ((8 - i) as u32)) << (w as u32);
+    let middle = v & ones(w);
+    let low = y & ones(s);
+    (((high + middle) << (s as u32)) + low) as u8
 }
 
-fn put_bit(out: &mut [u8], i: usize, v: u8)
-    requires { ⌜ v < 2 ⌝ }
-    ensures { λ _. ⌜ bits (now (out .exit)) ≡ set (bits (now (out .entry))) i v ⌝ }
+// The same of the byte at k.
+fn put_within(out: &mut [u8], k: usize, i: usize, w: usize, v: u32)
+    requires { ⌜ i + w ≤ 8 ⌝ }
+    ensures { λ _. ⌜ bits (now (out .exit)) ≡ sets (bits (now (out .entry))) (k * 8 + i) (bitsOf w v) ⌝ }
 {
-    let x = octets::byte(out, i / 8);
-    let y = with_bit(x, i % 8, v);
-    put(out, i / 8, y);
+    let x = octets::byte(out, k);
+    let y = with_field(x, i, w, v);
+    put(out, k, y);
 }
 
-fn write_field(out: &mut [u8], p: usize, w: usize, x: u32)
+fn write_bits(out: &mut [u8], p: usize, w: usize, x: u32)
     requires { ⌜ (w ≤ 32) × (p < 80000) ⌝ }
     ensures { λ _. ⌜ bits (now (out .exit)) ≡ sets (bits (now (out .entry))) p (bitsOf w x) ⌝ }
 {
     let mut j: usize = 0;
     while j < w {
-        let v = ((x >> ((w - 1 - j) as u32)) % 2) as u8;
-        put_bit(out, p + j, v);
+        let i = p + j;
+        put_within(out, i / 8, i % 8, 1, x >> ((w - 1 - j) as u32));
         j += 1;
+    }
+}
+
+// Most numbers lie within a byte, and are written at once.
+fn write_field(out: &mut [u8], p: usize, w: usize, x: u32)
+    requires { ⌜ (w ≤ 32) × (p < 80000) ⌝ }
+    ensures { λ _. ⌜ bits (now (out .exit)) ≡ sets (bits (now (out .entry))) p (bitsOf w x) ⌝ }
+{
+    let i = p % 8;
+    if i + w <= 8 {
+        put_within(out, p / 8, i, w, x);
+    } else {
+        write_bits(out, p, w, x);
     }
 }
 

@@ -13,14 +13,14 @@ use Rattle.size.specs.Size.{packetSize}
 use Rattle.laws.specs.Scan.{all}
 use Rattle.laws.proofs.Cases.{and-yes, and-left, if-yes, if-no}
 use Rattle.laws.proofs.Elements.{by-test, all-head, all-tail}
-use Rattle.packet.specs.declared.Form.{Form}
-use Rattle.packet.specs.declared.Form.the-variants as form
+use Rattle.packet.specs.declared.Kind.{Kind}
+use Rattle.packet.specs.declared.Kind.the-variants as kind
 use Rattle.format.specs.Format.{size, decode, flat}
 use Rattle.format.specs.Reach.{fieldRead, fieldsRead}
-use Rattle.packet.specs.Table.{formOf, rowOf, countIn}
+use Rattle.packet.specs.Table.{kindOf, rowOf, countIn}
 use Rattle.packet.specs.declared.Content.{Content}
 use Rattle.packet.specs.Content.{numbersOf, numbersIn}
-use Rattle.packet.specs.Reading.{kindIn, codesIn, formIn, contentAt, contentSize, countOf, partAt, numbersAt, frontIn, backIn, zeros, padded, hasEntries, fieldsOf, readAnswer, openedBy, opened, partBy, bodyOf, textAnswer}
+use Rattle.packet.specs.Reading.{typeIn, codesIn, kindIn, contentAt, contentSize, countOf, partAt, numbersAt, frontIn, backIn, zeros, padded, hasEntries, fieldsOf, readAnswer, openedBy, opened, partBy, bodyOf, textAnswer}
 use Rattle.packet.proofs.Accepted.{accepted, text-there}
 use Rattle.trips.proofs.Answers.{read-answer}
 use Rattle.trips.proofs.Text.{text-of-packet}
@@ -30,27 +30,27 @@ use Rattle.join.specs.Places.{pieceAt, Placed, Ready}
 use Rattle.join.proofs.Cuts.{onward, onward-next}
 
 -- ---- what a part is: accepted, of type 15
-pub part-text : (b : List ℕ) → isPart b ≡ true → (readAnswer b ≡ 0) × (kindIn b ≡ 15)
+pub part-text : (b : List ℕ) → isPart b ≡ true → (readAnswer b ≡ 0) × (typeIn b ≡ 15)
 unfolding isPart
 part-text b e = text-there b (eqb-true (textAnswer b) 0 (and-left (eqb (textAnswer b) 0) (eqb (setIn b) 0) e))
 
 pub part-zero : (b : List ℕ) → isPart b ≡ true → readAnswer b ≡ 0
 part-zero b e = part-text b e .0
 
-part-form : (b : List ℕ) → isPart b ≡ true → formIn b ≡ form.Text
-unfolding formOf
-part-form b e = ap formOf (part-text b e .1)
+part-kind : (b : List ℕ) → isPart b ≡ true → kindIn b ≡ kind.Text
+unfolding kindOf
+part-kind b e = ap kindOf (part-text b e .1)
 
 -- the set stands 4 bits into the content
 pub part-set : (b : List ℕ) → textAnswer b ≡ 0 → setIn b ≡ at (bits b) (28 + 96 * codesIn b) 4
 unfolding opened fieldsOf
 part-set b e =
     let t = text-there b e in
-    let k = ap (λ (a : ℕ). openedBy a b .fields .kind) (t .0) ∙ t .1 in
+    let k = ap (λ (a : ℕ). openedBy a b .fields .typenumber) (t .0) ∙ t .1 in
     ap (λ (c : Content). getD (numbersOf c) 1 0) (text-of-packet b (read-answer b ∙ t .0) .0 k .2)
 
 -- the message number stands 12 bits into it
-digits-at : Form → List ℕ → List ℕ
+digits-at : Kind → List ℕ → List ℕ
 digits-at f b =
     padded 35 (drop (numbersIn f) (numbersAt (rowOf f .before) b (contentAt b)) ++ numbersAt (rowOf f .after) b (contentAt b + (partAt (rowOf f) + countOf b * size (rowOf f .each))))
 
@@ -59,14 +59,14 @@ unfolding opened fieldsOf frontIn backIn digits-at decode flat run zeros
 part-digits b e =
     let p : 24 + 96 * codesIn b + 4 + 4 + 4 ≡ 36 + 96 * codesIn b = omega arith in
     ap (λ (a : ℕ). openedBy a b .fields .digits) (part-zero b e)
-    ∙ ap (λ (f : Form). digits-at f b) (part-form b e)
+    ∙ ap (λ (f : Kind). digits-at f b) (part-kind b e)
     ∙ ap (λ (q : ℕ). sets (replicate 35 0) 0 (run (bits b) q 35 4)) p
 
 -- so its body stands behind the codes and 20 bytes, with its length in the byte before it
-text-at : Form → List ℕ → List ℕ
+text-at : Kind → List ℕ → List ℕ
 text-at f b = take (cond (hasEntries f) 0 (countIn (rowOf f) (bits b) (contentAt b) (contentSize b))) (drop (3 + 12 * codesIn b + partAt (rowOf f) / 8) b)
 
-text-lead : partAt (rowOf form.Text) / 8 ≡ 20
+text-lead : partAt (rowOf kind.Text) / 8 ≡ 20
 unfolding partAt size
 text-lead = refl
 
@@ -76,8 +76,8 @@ part-body b e =
     let n = codesIn b in
     let p : 24 + 96 * n + 152 ≡ 176 + 96 * n = omega arith in
     let q : 3 + 12 * n + 20 ≡ 23 + 12 * n = omega arith in
-    ap (λ (a : ℕ). partBy a (3 + 12 * n + partAt (rowOf (formIn b)) / 8) (cond (hasEntries (formIn b)) 0 (countOf b)) b) (part-zero b e)
-    ∙ ap (λ (f : Form). text-at f b) (part-form b e)
+    ap (λ (a : ℕ). partBy a (3 + 12 * n + partAt (rowOf (kindIn b)) / 8) (cond (hasEntries (kindIn b)) 0 (countOf b)) b) (part-zero b e)
+    ∙ ap (λ (f : Kind). text-at f b) (part-kind b e)
     ∙ ap (λ (x : ℕ). take (at (bits b) (24 + 96 * n + 152) 8) (drop (3 + 12 * n + x) b)) text-lead
     ∙ ap₂ (λ (x y : ℕ). take (at (bits b) x 8) (drop y b)) p q
 

@@ -9,7 +9,7 @@ use lib.Seq.{sets, length-sets}
 use Rattle.laws.proofs.Cases.{and-yes, and-no}
 use Rattle.laws.proofs.Writes.{sets-append}
 use Rattle.packet.specs.Table.{rowOf}
-use Rattle.packet.specs.Reading.{codesIn, formIn, countOf, partAt, hasEntries, readAnswer, partBy, bodyOf}
+use Rattle.packet.specs.Reading.{codesIn, kindIn, countOf, partAt, hasEntries, readAnswer, partBy, bodyOf}
 use Rattle.packet.proofs.Accepted.{accepted}
 use Rattle.story.specs.Telling.{headOf}
 use Rattle.story.specs.Joining.{digitsOf, isAfter, withHead, found, inStep, allInStep, texts}
@@ -74,7 +74,7 @@ part-small (suc a) from k b h = omega arith
 
 pub text-small : (b : List ℕ) → length (drop 4 (bodyOf b)) ≤ 250
 unfolding bodyOf
-text-small b = omega (arith, length-drop 4 (bodyOf b), part-small (readAnswer b) (3 + 12 * codesIn b + partAt (rowOf (formIn b)) / 8) (cond (hasEntries (formIn b)) 0 (countOf b)) b (λ e. accepted b e .most))
+text-small b = omega (arith, length-drop 4 (bodyOf b), part-small (readAnswer b) (3 + 12 * codesIn b + partAt (rowOf (kindIn b)) / 8) (cond (hasEntries (kindIn b)) 0 (countOf b)) b (λ e. accepted b e .most))
 
 -- ---- how long: a loop's turn
 pub long-next : (n : ℕ) (bs : List (List ℕ)) (k all sum : ℕ) (t : List ℕ) → k < n → all ≡ sum + length (texts (left n bs k)) → t ≡ textAt n bs k → all ≡ sum + length t + length (texts (left n bs (k + 1)))

@@ -17,7 +17,7 @@ fn look(l: Looking, bit: u8) -> Looking {
     let mut blocks = l.blocks;
     if came >= 26 {
         let mut line = [0u8; 29];
-        let n = lines::letter_line(came - 26, bits, &mut line);
+        let n = print::letter_line(came - 26, bits, &mut line);
         if n > 0 {
             if n <= 29 {
                 io::write_all(STDOUT_FILENO, &line[0..n]);

@@ -27,7 +27,7 @@ fn begin() -> Listing {
 fn show(c: Holdings, frame: &[u8]) -> Holdings {
     let offered = collector::offer(c, frame);
     let mut line = [0u8; 21];
-    let n = lines::frame_line(frame, offered.answer, &mut line);
+    let n = print::frame_line(frame, offered.answer, &mut line);
     if n <= 21 {
         io::write_all(STDOUT_FILENO, &line[0..n]);
     }

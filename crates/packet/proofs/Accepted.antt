@@ -12,11 +12,11 @@ use Rattle.laws.specs.Refusals.{first}
 use Rattle.laws.proofs.Cases.{and-both, or-both}
 use Rattle.laws.proofs.Refusals.{not-due}
 use Rattle.format.specs.Format.{size, fine}
-use Rattle.packet.specs.declared.Form.{Form}
-use Rattle.packet.specs.declared.Form.the-variants.{Frequencies, Address, Keep, Clock, Reset, Factory, Drill, Text, Hold, Raw, Unknown}
-use Rattle.packet.specs.Table.{formOf, contentBytes, rowOf, countIn, contentLines}
+use Rattle.packet.specs.declared.Kind.{Kind}
+use Rattle.packet.specs.declared.Kind.the-variants.{Frequencies, Address, Keep, Clock, Reset, Factory, Drill, Text, Hold, Raw, Unknown}
+use Rattle.packet.specs.Table.{kindOf, contentBytes, rowOf, countIn, contentLines}
 use Rattle.packet.specs.Content.{noSuchDay}
-use Rattle.packet.specs.Reading.{kindIn, lengthIn, codesIn, formIn, contentAt, contentSize, countOf, tableOf, valuesIn, partAt, contentIn, hasEntries, sizeBad, lengthBad, isUnknown, fieldBad, readAnswer, textAnswer}
+use Rattle.packet.specs.Reading.{typeIn, lengthIn, codesIn, kindIn, contentAt, contentSize, countOf, tableOf, valuesIn, partAt, contentIn, hasEntries, sizeBad, lengthBad, isUnknown, fieldBad, readAnswer, textAnswer}
 use Rattle.packet.proofs.Column.{column}
 
 -- ---- what a right size says
@@ -34,21 +34,21 @@ sized b e =
     record { least = leb-true _ _ (d .1); most = leb-true _ _ (c .1); field = eqb-true _ _ (d .0) }
 
 -- and a right length
-pub right-length : (b : List ℕ) → lengthBad b ≡ false → contentBytes (formIn b) (countOf b) ≡ contentSize b
+pub right-length : (b : List ℕ) → lengthBad b ≡ false → contentBytes (kindIn b) (countOf b) ≡ contentSize b
 unfolding lengthBad
 right-length b e = eqb-true _ _ (not-false _ e)
 
-pub right-size : (b : List ℕ) → lengthBad b ≡ false → size (contentLines (rowOf (formIn b)) (countOf b)) ≡ 8 * contentSize b
-right-size b e = column (formIn b) (countOf b) ∙ ap (λ (m : ℕ). 8 * m) (right-length b e)
+pub right-size : (b : List ℕ) → lengthBad b ≡ false → size (contentLines (rowOf (kindIn b)) (countOf b)) ≡ 8 * contentSize b
+right-size b e = column (kindIn b) (countOf b) ∙ ap (λ (m : ℕ). 8 * m) (right-length b e)
 
 -- ---- what a reader's 0 says
 pub record Accepted (b : List ℕ) : Type 0 where
   pub least : 77 + 12 * codesIn b ≤ length b
   pub most : length b ≤ 250
   pub field : length b ≡ lengthIn b + 2
-  pub known : isUnknown (formIn b) ≡ false
-  pub bytes : contentBytes (formIn b) (countOf b) ≡ contentSize b
-  pub right : size (contentLines (rowOf (formIn b)) (countOf b)) ≡ 8 * contentSize b
+  pub known : isUnknown (kindIn b) ≡ false
+  pub bytes : contentBytes (kindIn b) (countOf b) ≡ contentSize b
+  pub right : size (contentLines (rowOf (kindIn b)) (countOf b)) ≡ 8 * contentSize b
   pub c24 : fine 24 (tableOf b) (valuesIn b) ≡ true
   pub c25 : fine 25 (tableOf b) (valuesIn b) ≡ true
   pub c27 : fine 27 (tableOf b) (valuesIn b) ≡ true
@@ -58,7 +58,7 @@ pub accepted : (b : List ℕ) → readAnswer b ≡ 0 → Accepted b
 unfolding readAnswer
 accepted b e =
     let p = not-due (sizeBad b) 20 _ (λ h. omega arith) e in
-    let q = not-due (isUnknown (formIn b)) 23 _ (λ h. omega arith) (p .1) in
+    let q = not-due (isUnknown (kindIn b)) 23 _ (λ h. omega arith) (p .1) in
     let r = not-due (lengthBad b) 26 _ (λ h. omega arith) (q .1) in
     let s = not-due _ 24 _ (λ h. omega arith) (r .1) in
     let t = not-due _ 25 _ (λ h. omega arith) (s .1) in
@@ -102,21 +102,21 @@ one-more false false false false false true y = refl
 one-more false false false false false false true = refl
 one-more false false false false false false false = refl
 
-pub text-later : (b : List ℕ) → textAnswer b ≡ later (readAnswer b) (not (eqb (kindIn b) 15))
+pub text-later : (b : List ℕ) → textAnswer b ≡ later (readAnswer b) (not (eqb (typeIn b) 15))
 unfolding textAnswer readAnswer
-text-later b = one-more (sizeBad b) (isUnknown (formIn b)) (lengthBad b) (not (fine 24 (tableOf b) (valuesIn b))) (not (fine 25 (tableOf b) (valuesIn b))) (fieldBad b) (not (eqb (kindIn b) 15))
+text-later b = one-more (sizeBad b) (isUnknown (kindIn b)) (lengthBad b) (not (fine 24 (tableOf b) (valuesIn b))) (not (fine 25 (tableOf b) (valuesIn b))) (fieldBad b) (not (eqb (typeIn b) 15))
 
 -- a text is there in an accepted packet of type 15
-pub text-there : (b : List ℕ) → textAnswer b ≡ 0 → (readAnswer b ≡ 0) × (kindIn b ≡ 15)
-text-there b e = go (readAnswer b) (eqb (kindIn b) 15) refl refl (sym (text-later b) ∙ e)
+pub text-there : (b : List ℕ) → textAnswer b ≡ 0 → (readAnswer b ≡ 0) × (typeIn b ≡ 15)
+text-there b e = go (readAnswer b) (eqb (typeIn b) 15) refl refl (sym (text-later b) ∙ e)
   where
-    go : (a : ℕ) (t : Bool) → readAnswer b ≡ a → eqb (kindIn b) 15 ≡ t → later (readAnswer b) (not (eqb (kindIn b) 15)) ≡ 0 → (readAnswer b ≡ 0) × (kindIn b ≡ 15)
+    go : (a : ℕ) (t : Bool) → readAnswer b ≡ a → eqb (typeIn b) 15 ≡ t → later (readAnswer b) (not (eqb (typeIn b) 15)) ≡ 0 → (readAnswer b ≡ 0) × (typeIn b ≡ 15)
     go zero true h k z = (h, eqb-true _ _ k)
     go zero false h k z = absurd (let w : _≡_ {A = ℕ} 27 0 = rw (h, k) at z in omega arith)
     go (suc a) t h k z = absurd (let w : suc a ≡ 0 = rw (h) at z in omega arith)
 
 -- ---- parts end inside the packet
-body-in : (f : Form) (l : List ℕ) (q m : ℕ) → partAt (rowOf f) / 8 + cond (hasEntries f) 0 (countIn (rowOf f) l q m) ≤ contentBytes f (countIn (rowOf f) l q m)
+body-in : (f : Kind) (l : List ℕ) (q m : ℕ) → partAt (rowOf f) / 8 + cond (hasEntries f) 0 (countIn (rowOf f) l q m) ≤ contentBytes f (countIn (rowOf f) l q m)
 unfolding partAt size
 body-in Frequencies l q m = omega arith
 body-in Address l q m = omega arith
@@ -131,17 +131,17 @@ body-in Raw l q m = omega arith
 body-in Unknown l q m = omega arith
 
 -- the bytes of a content end before the time begins, 74 bytes before the end
-pub body-inside : (b : List ℕ) → Accepted b → 3 + 12 * codesIn b + partAt (rowOf (formIn b)) / 8 + cond (hasEntries (formIn b)) 0 (countOf b) + 74 ≤ length b
+pub body-inside : (b : List ℕ) → Accepted b → 3 + 12 * codesIn b + partAt (rowOf (kindIn b)) / 8 + cond (hasEntries (kindIn b)) 0 (countOf b) + 74 ≤ length b
 unfolding countOf
-body-inside b z = omega (arith, body-in (formIn b) (bits b) (contentAt b) (contentSize b), z .bytes, z .least)
+body-inside b z = omega (arith, body-in (kindIn b) (bits b) (contentAt b) (contentSize b), z .bytes, z .least)
 
 -- a text begins 20 bytes into the content
-pub text-from : (b : List ℕ) → kindIn b ≡ 15 → (3 + 12 * codesIn b + partAt (rowOf (formIn b)) / 8 ≡ 23 + 12 * codesIn b) × (cond (hasEntries (formIn b)) 0 (countOf b) ≡ countOf b)
-unfolding formOf partAt size
+pub text-from : (b : List ℕ) → typeIn b ≡ 15 → (3 + 12 * codesIn b + partAt (rowOf (kindIn b)) / 8 ≡ 23 + 12 * codesIn b) × (cond (hasEntries (kindIn b)) 0 (countOf b) ≡ countOf b)
+unfolding kindOf partAt size
 text-from b e =
-    let f : formIn b ≡ Text = ap formOf e in
-    let p : partAt (rowOf (formIn b)) / 8 ≡ 20 = ap (λ (g : Form). partAt (rowOf g) / 8) f in
-    (omega arith, ap (λ (g : Form). cond (hasEntries g) 0 (countOf b)) f)
+    let f : kindIn b ≡ Text = ap kindOf e in
+    let p : partAt (rowOf (kindIn b)) / 8 ≡ 20 = ap (λ (g : Kind). partAt (rowOf g) / 8) f in
+    (omega arith, ap (λ (g : Kind). cond (hasEntries g) 0 (countOf b)) f)
 
-pub text-inside : (b : List ℕ) → Accepted b → kindIn b ≡ 15 → 23 + 12 * codesIn b + countOf b ≤ length b
+pub text-inside : (b : List ℕ) → Accepted b → typeIn b ≡ 15 → 23 + 12 * codesIn b + countOf b ≤ length b
 text-inside b z e = let t = text-from b e in omega (arith, body-inside b z, t .0, t .1)

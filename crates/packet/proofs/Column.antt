@@ -5,29 +5,29 @@ use Prim.Native.Nat.{ℕ, _+_, _*_}
 use native.Mathlib.Omega.{arith}
 use Rattle.format.specs.Format.{times, size, need}
 use Rattle.format.proofs.Tables.{size-append, size-times}
-use Rattle.packet.specs.declared.Sort.{Sort}
-use Rattle.packet.specs.declared.Sort.the-variants as sort
-use Rattle.packet.specs.declared.Form.{Form}
-use Rattle.packet.specs.declared.Form.the-variants.{Frequencies, Address, Keep, Clock, Reset, Factory, Drill, Text, Hold, Raw, Unknown}
+use Rattle.packet.specs.declared.Counting.{Counting}
+use Rattle.packet.specs.declared.Counting.the-variants as counting
+use Rattle.packet.specs.declared.Kind.{Kind}
+use Rattle.packet.specs.declared.Kind.the-variants.{Frequencies, Address, Keep, Clock, Reset, Factory, Drill, Text, Hold, Raw, Unknown}
 use Rattle.packet.specs.Table.{contentBytes, Row, rowOf, countLine, contentLines}
 use Rattle.packet.specs.Reading.{countSize, partAt, sizesOf}
 
-pub count-size : (s : Sort) (k : ℕ) → size (countLine s k) ≡ countSize s
+pub count-size : (s : Counting) (k : ℕ) → size (countLine s k) ≡ countSize s
 unfolding size
-count-size sort.Fixed k = refl
-count-size sort.Counted k = refl
-count-size sort.Raw k = refl
-count-size sort.Unknown k = refl
+count-size counting.Fixed k = refl
+count-size counting.Counted k = refl
+count-size counting.Raw k = refl
+count-size counting.Unknown k = refl
 
 pub content-size : (r : Row) (k : ℕ) → size (contentLines r k) ≡ partAt r + k * size (r .each) + size (r .after)
 unfolding contentLines partAt
 content-size r k =
-    let L = countLine (r .sort) k in
-    omega (arith, size-append (r .before) (L ++ (times k (r .each) ++ r .after)), size-append L (times k (r .each) ++ r .after), size-append (times k (r .each)) (r .after), size-times k (r .each), count-size (r .sort) k, count-size (r .sort) 0)
+    let L = countLine (r .counting) k in
+    omega (arith, size-append (r .before) (L ++ (times k (r .each) ++ r .after)), size-append L (times k (r .each) ++ r .after), size-append (times k (r .each)) (r .after), size-times k (r .each), count-size (r .counting) k, count-size (r .counting) 0)
 
 -- The lines of a content whose row stands k times have as many bits as the column of paper 01's table says in bytes. The reader's 26 and the writer's size
 -- are said by the column; what is read and written goes by the lines.
-pub column : (f : Form) (k : ℕ) → size (contentLines (rowOf f) k) ≡ 8 * contentBytes f k
+pub column : (f : Kind) (k : ℕ) → size (contentLines (rowOf f) k) ≡ 8 * contentBytes f k
 unfolding size partAt
 column Frequencies k = content-size (rowOf Frequencies) k ∙ omega arith
 column Address k = content-size (rowOf Address) k ∙ omega arith
@@ -42,10 +42,10 @@ column Raw k = content-size (rowOf Raw) k ∙ omega arith
 column Unknown k = content-size (rowOf Unknown) k ∙ omega arith
 
 -- a row's first lines and its count
-pub lead-is : (r : Row) → partAt r ≡ size (r .before) + countSize (r .sort)
+pub lead-is : (r : Row) → partAt r ≡ size (r .before) + countSize (r .counting)
 unfolding partAt
-lead-is r = ap (λ (n : ℕ). size (r .before) + n) (count-size (r .sort) 0)
+lead-is r = ap (λ (n : ℕ). size (r .before) + n) (count-size (r .counting) 0)
 
-pub sizes-are : (f : Form) (l e r a b c : ℕ) → l ≡ partAt (rowOf f) → e ≡ size (rowOf f .each) → r ≡ size (rowOf f .after) → a ≡ need (rowOf f .before) → b ≡ need (rowOf f .each) → c ≡ need (rowOf f .after)
+pub sizes-are : (f : Kind) (l e r a b c : ℕ) → l ≡ partAt (rowOf f) → e ≡ size (rowOf f .each) → r ≡ size (rowOf f .after) → a ≡ need (rowOf f .before) → b ≡ need (rowOf f .each) → c ≡ need (rowOf f .after)
     → record { lead = l; each = e; rest = r; first = a; row = b; last = c } ≡ sizesOf f
 sizes-are f l e r a b c p q s t u v = rw (p, q, s, t, u, v)

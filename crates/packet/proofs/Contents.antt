@@ -5,17 +5,17 @@ use mathlib.Core.List.{List, [], _∷_, _++_}
 use Prim.Native.Nat.{ℕ}
 use lib.ListN.{length}
 use Rattle.format.specs.Format.{octets}
-use Rattle.packet.specs.declared.Form.{Form}
-use Rattle.packet.specs.declared.Form.the-variants.{Frequencies, Address, Keep, Clock, Reset, Factory, Drill, Text, Hold, Raw, Unknown}
+use Rattle.packet.specs.declared.Kind.{Kind}
+use Rattle.packet.specs.declared.Kind.the-variants.{Frequencies, Address, Keep, Clock, Reset, Factory, Drill, Text, Hold, Raw, Unknown}
 use Rattle.packet.specs.declared.Content.{Content}
 use Rattle.packet.specs.declared.Content.the-variants as content
-use Rattle.packet.specs.declared.Sort.the-variants as sort
+use Rattle.packet.specs.declared.Counting.the-variants as counting
 use Rattle.packet.specs.Table.{rowOf, countBy}
-use Rattle.packet.specs.Content.{contentOf, formFor, numbersOf, numbersIn, countFor}
+use Rattle.packet.specs.Content.{contentOf, kindFor, numbersOf, numbersIn, countFor}
 use Rattle.packet.specs.Reading.{hasEntries, unknownBy, isUnknown}
 
 -- a content comes back from its numbers, whatever stands after them, and its count
-pub content-back : (c : Content) (rest body : List ℕ) → contentOf (formFor c) (numbersOf c ++ rest) (countFor c body) ≡ c
+pub content-back : (c : Content) (rest body : List ℕ) → contentOf (kindFor c) (numbersOf c ++ rest) (countFor c body) ≡ c
 content-back content.Raw rest body = refl
 content-back (content.Frequencies k) rest body = refl
 content-back (content.Address m) rest body = refl
@@ -28,7 +28,7 @@ content-back (content.Text kind set t) rest body = refl
 content-back (content.Hold serial) rest body = refl
 
 -- it has as many numbers as its kind
-pub numbers-long : (c : Content) → length (numbersOf c) ≡ numbersIn (formFor c)
+pub numbers-long : (c : Content) → length (numbersOf c) ≡ numbersIn (kindFor c)
 numbers-long content.Raw = refl
 numbers-long (content.Frequencies k) = refl
 numbers-long (content.Address m) = refl
@@ -41,12 +41,12 @@ numbers-long (content.Text kind set t) = refl
 numbers-long (content.Hold serial) = refl
 
 -- what is repeated: entries, bytes, or nothing
-pub data Repeated : Form → Type 0 where
-  entries : {f : Form} → hasEntries f ≡ true → rowOf f .sort ≡ sort.Counted → Repeated f
-  octet : {f : Form} → hasEntries f ≡ false → rowOf f .each ≡ octets 1 ∷ [] → Repeated f
-  nothing : {f : Form} → hasEntries f ≡ false → rowOf f .each ≡ [] → ((k m : ℕ) → countBy (rowOf f .sort) k m ≡ 0) → Repeated f
+pub data Repeated : Kind → Type 0 where
+  entries : {f : Kind} → hasEntries f ≡ true → rowOf f .counting ≡ counting.Counted → Repeated f
+  octet : {f : Kind} → hasEntries f ≡ false → rowOf f .each ≡ octets 1 ∷ [] → Repeated f
+  nothing : {f : Kind} → hasEntries f ≡ false → rowOf f .each ≡ [] → ((k m : ℕ) → countBy (rowOf f .counting) k m ≡ 0) → Repeated f
 
-pub repeated : (f : Form) → Repeated f
+pub repeated : (f : Kind) → Repeated f
 repeated Frequencies = entries refl refl
 repeated Address = octet refl refl
 repeated Keep = nothing refl refl (λ k m. refl)
@@ -60,10 +60,10 @@ repeated Raw = octet refl refl
 repeated Unknown = nothing refl refl (λ k m. refl)
 
 -- a content is of a known kind
-pub content-known : (c : Content) → rowOf (formFor c) .sort ≡ sort.Unknown → ⊥
+pub content-known : (c : Content) → rowOf (kindFor c) .counting ≡ counting.Unknown → ⊥
 content-known c h = absurd (true≢false (sym (ap unknownBy h) ∙ known c))
   where
-    known : (c : Content) → isUnknown (formFor c) ≡ false
+    known : (c : Content) → isUnknown (kindFor c) ≡ false
     known content.Raw = refl
     known (content.Frequencies k) = refl
     known (content.Address m) = refl
@@ -76,7 +76,7 @@ content-known c h = absurd (true≢false (sym (ap unknownBy h) ∙ known c))
     known (content.Hold serial) = refl
 
 -- only frequencies have entries
-pub entries-only : (f : Form) → hasEntries f ≡ true → f ≡ Frequencies
+pub entries-only : (f : Kind) → hasEntries f ≡ true → f ≡ Frequencies
 entries-only Frequencies h = refl
 entries-only Address h = absurd (true≢false (sym h))
 entries-only Keep h = absurd (true≢false (sym h))

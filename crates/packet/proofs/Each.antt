@@ -7,17 +7,17 @@ use native.Mathlib.Omega.{arith}
 use lib.ListN.{getD}
 use Rattle.laws.specs.Scan.{all}
 use Rattle.laws.proofs.Elements.{all-at}
-use Rattle.packet.specs.declared.Form.{Form}
-use Rattle.packet.specs.declared.Form.the-variants.{Frequencies, Address, Keep, Clock, Reset, Factory, Drill, Text, Hold, Raw, Unknown}
+use Rattle.packet.specs.declared.Kind.{Kind}
+use Rattle.packet.specs.declared.Kind.the-variants.{Frequencies, Address, Keep, Clock, Reset, Factory, Drill, Text, Hold, Raw, Unknown}
 
-abbrev pub kinds : List Form
+abbrev pub kinds : List Kind
 kinds = Frequencies ∷ Address ∷ Keep ∷ Clock ∷ Reset ∷ Factory ∷ Drill ∷ Text ∷ Hold ∷ Raw ∷ Unknown ∷ []
 
-module _ (P : Form → Bool) (h : all P kinds ≡ true) where
+module _ (P : Kind → Bool) (h : all P kinds ≡ true) where
   at : (i : ℕ) → i < 11 → P (getD kinds i Raw) ≡ true
   at i l = all-at P kinds i Raw h l
 
-  pub each-kind : (f : Form) → P f ≡ true
+  pub each-kind : (f : Kind) → P f ≡ true
   each-kind Frequencies = at 0 (omega arith)
   each-kind Address = at 1 (omega arith)
   each-kind Keep = at 2 (omega arith)

@@ -10,29 +10,29 @@ use borrow.Author.Tests.{leb-true}
 use Rattle.laws.specs.Scan.{all}
 use Rattle.laws.proofs.Elements.{all-at}
 use Rattle.format.specs.Format.{size, need, sound, unmet}
-use Rattle.packet.specs.declared.Form.{Form}
-use Rattle.packet.specs.declared.Sort.{Sort}
-use Rattle.packet.specs.declared.Sort.the-variants as sort
+use Rattle.packet.specs.declared.Kind.{Kind}
+use Rattle.packet.specs.declared.Counting.{Counting}
+use Rattle.packet.specs.declared.Counting.the-variants as counting
 use Rattle.packet.specs.Table.{rowOf}
 use Rattle.packet.specs.Content.{numbersIn}
 use Rattle.packet.specs.Reading.{partAt, hasEntries}
 use Rattle.packet.proofs.Each.{kinds, each-kind}
 
 -- a raw content, and one with nothing repeated
-abbrev pub rawBy : Sort → Bool
-rawBy sort.Fixed = false
-rawBy sort.Counted = false
-rawBy sort.Raw = true
-rawBy sort.Unknown = false
+abbrev pub rawBy : Counting → Bool
+rawBy counting.Fixed = false
+rawBy counting.Counted = false
+rawBy counting.Raw = true
+rawBy counting.Unknown = false
 
-abbrev pub noneBy : Sort → Bool
-noneBy sort.Fixed = true
-noneBy sort.Counted = false
-noneBy sort.Raw = false
-noneBy sort.Unknown = true
+abbrev pub noneBy : Counting → Bool
+noneBy counting.Fixed = true
+noneBy counting.Counted = false
+noneBy counting.Raw = false
+noneBy counting.Unknown = true
 
 -- the tests, one by one
-abbrev tests : Form → List Bool
+abbrev tests : Kind → List Bool
 tests f =
     all sound (rowOf f .before)
     ∷ all sound (rowOf f .each)
@@ -48,18 +48,18 @@ tests f =
     ∷ leb (need (rowOf f .before) - numbersIn f + need (rowOf f .after)) 35
     ∷ (eqb (need (rowOf f .before)) (numbersIn f) || eqb (need (rowOf f .after)) 0)
     ∷ (hasEntries f || (all (unmet 25) (rowOf f .each) && all (unmet 27) (rowOf f .each)))
-    ∷ (not (rawBy (rowOf f .sort)) || eqb (need (rowOf f .each)) 1)
-    ∷ (noneBy (rowOf f .sort) || leb 8 (size (rowOf f .each)))
+    ∷ (not (rawBy (rowOf f .counting)) || eqb (need (rowOf f .each)) 1)
+    ∷ (noneBy (rowOf f .counting) || leb 8 (size (rowOf f .each)))
     ∷ []
 
-abbrev passed : Form → Bool
+abbrev passed : Kind → Bool
 passed f = all (λ (b : Bool). b) (tests f)
 
 all-pass : all passed kinds ≡ true
 unfolding all size need partAt
 all-pass = refl
 
-pub record Good (f : Form) : Type 0 where
+pub record Good (f : Kind) : Type 0 where
   pub before : all sound (rowOf f .before) ≡ true
   pub each : all sound (rowOf f .each) ≡ true
   pub after : all sound (rowOf f .after) ≡ true
@@ -74,10 +74,10 @@ pub record Good (f : Form) : Type 0 where
   pub last : need (rowOf f .before) - numbersIn f + need (rowOf f .after) ≤ 35
   pub one-place : (eqb (need (rowOf f .before)) (numbersIn f) || eqb (need (rowOf f .after)) 0) ≡ true
   pub octets-pass : (hasEntries f || (all (unmet 25) (rowOf f .each) && all (unmet 27) (rowOf f .each))) ≡ true
-  pub raw-one : (not (rawBy (rowOf f .sort)) || eqb (need (rowOf f .each)) 1) ≡ true
-  pub least : (noneBy (rowOf f .sort) || leb 8 (size (rowOf f .each))) ≡ true
+  pub raw-one : (not (rawBy (rowOf f .counting)) || eqb (need (rowOf f .each)) 1) ≡ true
+  pub least : (noneBy (rowOf f .counting) || leb 8 (size (rowOf f .each))) ≡ true
 
-pub good : (f : Form) → Good f
+pub good : (f : Kind) → Good f
 good f =
     record {
       before = at 0 (omega arith);

@@ -1,4 +1,4 @@
-pub mod Forms
+pub mod ByType
 pub mod Column
 pub mod Refused
 pub mod Accepted

@@ -34,30 +34,30 @@ module _ (T : List Line) (j : ℕ) (d t : Line) (h : j < length T) (e : t ≡ ge
   unfolding all
   sound-turn s = and-both (sound t) (all sound (drop (j + 1) T)) (ap (all sound) (sym lines-cons) ∙ s)
 
-  pub fine-no : (k : ℕ) (l : List ℕ) (q : ℕ) (x : Bool) → x ≡ fine k (drop j T) (decode (drop j T) l q) → lineOk k t (run l q (t .n) (t .w)) ≡ false → false ≡ x
+  pub fine-no : (k : ℕ) (l : List ℕ) (q : ℕ) (x : Bool) → x ≡ fine k (drop j T) (decode (drop j T) l q) → lineOk k t (run l q (t .count) (t .width)) ≡ false → false ≡ x
   unfolding fine decode
   fine-no k l q x f g = sym (f ∙ rw (lines-cons, g))
 
-  pub fine-turn : (k : ℕ) (l : List ℕ) (q : ℕ) (x : Bool) → x ≡ fine k (drop j T) (decode (drop j T) l q) → lineOk k t (run l q (t .n) (t .w)) ≡ true
-      → x ≡ fine k (drop (j + 1) T) (decode (drop (j + 1) T) l (q + t .n * t .w))
+  pub fine-turn : (k : ℕ) (l : List ℕ) (q : ℕ) (x : Bool) → x ≡ fine k (drop j T) (decode (drop j T) l q) → lineOk k t (run l q (t .count) (t .width)) ≡ true
+      → x ≡ fine k (drop (j + 1) T) (decode (drop (j + 1) T) l (q + t .count * t .width))
   unfolding fine decode
   fine-turn k l q x f g = f ∙ rw (lines-cons, g)
 
-  pub size-turn : (q s : ℕ) → s ≡ q + size (drop j T) → s ≡ q + t .n * t .w + size (drop (j + 1) T)
+  pub size-turn : (q s : ℕ) → s ≡ q + size (drop j T) → s ≡ q + t .count * t .width + size (drop (j + 1) T)
   unfolding size
-  size-turn q s f = let g : size (drop j T) ≡ t .n * t .w + size (drop (j + 1) T) = rw lines-cons in omega arith
+  size-turn q s f = let g : size (drop j T) ≡ t .count * t .width + size (drop (j + 1) T) = rw lines-cons in omega arith
 
   pub need-turn : (i s : ℕ) → s ≡ i + need (drop j T) → s ≡ i + own t + need (drop (j + 1) T)
   unfolding need
   need-turn i s f = let g : need (drop j T) ≡ own t + need (drop (j + 1) T) = rw lines-cons in omega arith
 
-  pub unmet-no : (k : ℕ) (x : Bool) → x ≡ all (unmet k) (drop j T) → t .other ≡ k → false ≡ x
+  pub unmet-no : (k : ℕ) (x : Bool) → x ≡ all (unmet k) (drop j T) → t .answer ≡ k → false ≡ x
   unfolding all
-  unmet-no k x f g = sym (f ∙ rw (lines-cons, eq-eqb (t .other) k g))
+  unmet-no k x f g = sym (f ∙ rw (lines-cons, eq-eqb (t .answer) k g))
 
-  pub unmet-turn : (k : ℕ) (x : Bool) → x ≡ all (unmet k) (drop j T) → (t .other ≡ k → ⊥) → x ≡ all (unmet k) (drop (j + 1) T)
+  pub unmet-turn : (k : ℕ) (x : Bool) → x ≡ all (unmet k) (drop j T) → (t .answer ≡ k → ⊥) → x ≡ all (unmet k) (drop (j + 1) T)
   unfolding all
-  unmet-turn k x f g = f ∙ rw (lines-cons, ne-eqb (t .other) k g)
+  unmet-turn k x f g = f ∙ rw (lines-cons, ne-eqb (t .answer) k g)
 
 module _ (T : List Line) (j : ℕ) (h : length T ≤ j) where
   pub fine-done : (k : ℕ) (l : List ℕ) (q : ℕ) (x : Bool) → x ≡ fine k (drop j T) (decode (drop j T) l q) → true ≡ x

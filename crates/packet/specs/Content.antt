@@ -5,14 +5,14 @@ use mathlib.Core.Bool.{Bool, false, not}
 use lib.ListN.{length, getD}
 use lib.Dec.{leb}
 use Rattle.days.specs.Days.{daysIn}
-use Rattle.packet.specs.declared.Form.{Form}
-use Rattle.packet.specs.declared.Form.the-variants.{Frequencies, Address, Keep, Clock, Reset, Factory, Drill, Text, Hold, Raw, Unknown}
+use Rattle.packet.specs.declared.Kind.{Kind}
+use Rattle.packet.specs.declared.Kind.the-variants.{Frequencies, Address, Keep, Clock, Reset, Factory, Drill, Text, Hold, Raw, Unknown}
 use Rattle.packet.specs.declared.Content.{Content}
 use Rattle.packet.specs.declared.Content.the-variants as content
 use Rattle.packet.specs.Table.{rowOf, countBy}
 
 -- the content of a kind, from the numbers that stand before its count, and its count
-abbrev pub contentOf : Form → List ℕ → ℕ → Content
+abbrev pub contentOf : Kind → List ℕ → ℕ → Content
 contentOf Frequencies xs k = content.Frequencies k
 contentOf Address xs k = content.Address k
 contentOf Keep xs k = content.Keep (getD xs 0 0) (getD xs 1 0)
@@ -27,7 +27,7 @@ contentOf Unknown xs k = content.Raw
 
 -- and back: a content's kind, the numbers that stand before its count, and its count; 0 where it has none of its own
 pub record Parts : Type 0 where
-  pub kind : Form
+  pub kind : Kind
   pub numbers : List ℕ
   pub count : ℕ
 
@@ -45,20 +45,20 @@ partsOf (content.Text kind set t) = record { kind = Text; numbers = kind ∷ set
 partsOf (content.Hold serial) = record { kind = Hold; numbers = serial ∷ []; count = 0 }
 
 -- its kind
-abbrev pub formFor : Content → Form
-formFor c = partsOf c .kind
+abbrev pub kindFor : Content → Kind
+kindFor c = partsOf c .kind
 
 -- its numbers
 abbrev pub numbersOf : Content → List ℕ
 numbersOf c = partsOf c .numbers
 
 -- how many numbers a kind has; the digits stand after them
-abbrev pub numbersIn : Form → ℕ
+abbrev pub numbersIn : Kind → ℕ
 numbersIn f = length (numbersOf (contentOf f [] 0))
 
 -- its count: k, m or t; a raw content has none of its own, and is as long as what is lent
 abbrev pub countFor : Content → List ℕ → ℕ
-countFor c body = countBy (rowOf (formFor c) .sort) (partsOf c .count) (length body)
+countFor c body = countBy (rowOf (kindFor c) .counting) (partsOf c .count) (length body)
 
 -- ---- the one rule that crosses lines: the days of a month
 -- no such day

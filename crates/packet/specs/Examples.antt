@@ -9,7 +9,7 @@ use Rattle.packet.specs.declared.Fields.{Fields}
 -- type t with n codes; time, certificate and signature are of no account to the examples
 abbrev pub sample : ℕ → ℕ → Content → List ℕ → Fields
 sample t n c ds =
-    record { kind = t; codes = n; content = c; digits = ds; time = 1700000000; certificate = replicate 12 1; signature = replicate 64 7 }
+    record { typenumber = t; codes = n; content = c; digits = ds; time = 1700000000; certificate = replicate 12 1; signature = replicate 64 7 }
 
 -- type 15 with one code and t bytes of text
 abbrev pub textSample : ℕ → Fields

@@ -3,4 +3,4 @@ pub mod Content
 pub mod Reading
 pub mod Writing
 pub mod Examples
-pub mod Shape
+pub mod InCode

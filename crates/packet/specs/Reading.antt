@@ -10,20 +10,20 @@ use Rattle.laws.specs.Refusals.{Case, first}
 use Rattle.format.specs.declared.Line.{Line}
 use Rattle.format.specs.Format.{times, size, need, decode, flat, fine}
 use Rattle.size.specs.Size.{lengthField}
-use Rattle.packet.specs.declared.Form.{Form}
-use Rattle.packet.specs.declared.Sort.{Sort}
-use Rattle.packet.specs.declared.Sort.the-variants as sort
+use Rattle.packet.specs.declared.Kind.{Kind}
+use Rattle.packet.specs.declared.Counting.{Counting}
+use Rattle.packet.specs.declared.Counting.the-variants as counting
 use Rattle.packet.specs.declared.Content.{Content}
 use Rattle.packet.specs.declared.Content.the-variants as content
 use Rattle.packet.specs.declared.Fields.{Fields}
 use Rattle.packet.specs.declared.Opened.{Opened}
 use Rattle.packet.specs.declared.Sizes.{Sizes}
-use Rattle.packet.specs.Table.{formOf, contentBytes, Row, rowOf, countLine, code, packet, countIn}
+use Rattle.packet.specs.Table.{kindOf, contentBytes, Row, rowOf, countLine, code, packet, countIn}
 use Rattle.packet.specs.Content.{contentOf, numbersIn, noSuchDay}
 
 -- ---- the heading (000, table 1): type, length field, count of codes
-abbrev pub kindIn : List ℕ → ℕ
-kindIn b = at (bits b) 0 5
+abbrev pub typeIn : List ℕ → ℕ
+typeIn b = at (bits b) 0 5
 
 -- L, all bytes but the first two
 abbrev pub lengthIn : List ℕ → ℕ
@@ -34,8 +34,8 @@ abbrev pub codesIn : List ℕ → ℕ
 codesIn b = at (bits b) 16 8
 
 -- the kind that the type names (000, table 2)
-abbrev pub formIn : List ℕ → Form
-formIn b = formOf (kindIn b)
+abbrev pub kindIn : List ℕ → Kind
+kindIn b = kindOf (typeIn b)
 
 -- ---- the content: where its bits begin, how many bytes it has, how often its row stands (01, Packet)
 abbrev pub contentAt : List ℕ → ℕ
@@ -47,11 +47,11 @@ contentSize b = length b - 77 - 12 * codesIn b
 
 -- k, m or t; all bytes of a raw content
 unfoldable pub countOf : List ℕ → ℕ
-countOf b = countIn (rowOf (formIn b)) (bits b) (contentAt b) (contentSize b)
+countOf b = countIn (rowOf (kindIn b)) (bits b) (contentAt b) (contentSize b)
 
 -- ---- the table that the packet names, and its values by it (our table language)
 unfoldable pub tableOf : List ℕ → List Line
-tableOf b = packet (rowOf (formIn b)) (kindIn b) (length b) (codesIn b) (countOf b)
+tableOf b = packet (rowOf (kindIn b)) (typeIn b) (length b) (codesIn b) (countOf b)
 
 -- a list of numbers for each line
 abbrev pub valuesIn : List ℕ → List (List ℕ)
@@ -59,18 +59,18 @@ valuesIn b = decode (tableOf b) (bits b) 0
 
 -- ---- the numbers of the content's three parts (01, Packet)
 -- the count has 8 bits where there is one
-abbrev pub countSize : Sort → ℕ
-countSize sort.Fixed = 0
-countSize sort.Counted = 8
-countSize sort.Raw = 0
-countSize sort.Unknown = 0
+abbrev pub countSize : Counting → ℕ
+countSize counting.Fixed = 0
+countSize counting.Counted = 8
+countSize counting.Raw = 0
+countSize counting.Unknown = 0
 
 -- what is repeated begins so many bits into the content: after the first lines and the count
 unfoldable pub partAt : Row → ℕ
-partAt r = size (r .before) + size (countLine (r .sort) 0)
+partAt r = size (r .before) + size (countLine (r .counting) 0)
 
 -- the bits and own numbers of a kind's three parts (our table language)
-abbrev pub sizesOf : Form → Sizes
+abbrev pub sizesOf : Kind → Sizes
 sizesOf f =
     record {
       lead = partAt (rowOf f);
@@ -87,25 +87,25 @@ numbersAt ts b p = flat ts (decode ts (bits b) p)
 
 -- those before what is repeated
 unfoldable pub frontIn : List ℕ → List ℕ
-frontIn b = numbersAt (rowOf (formIn b) .before) b (contentAt b)
+frontIn b = numbersAt (rowOf (kindIn b) .before) b (contentAt b)
 
 -- those that are repeated
 unfoldable pub bodyIn : List ℕ → List ℕ
-bodyIn b = numbersAt (times (countOf b) (rowOf (formIn b) .each)) b (contentAt b + partAt (rowOf (formIn b)))
+bodyIn b = numbersAt (times (countOf b) (rowOf (kindIn b) .each)) b (contentAt b + partAt (rowOf (kindIn b)))
 
 -- those behind
 unfoldable pub backIn : List ℕ → List ℕ
 backIn b =
-    numbersAt (rowOf (formIn b) .after) b
-    (contentAt b + (partAt (rowOf (formIn b)) + countOf b * size (rowOf (formIn b) .each)))
+    numbersAt (rowOf (kindIn b) .after) b
+    (contentAt b + (partAt (rowOf (kindIn b)) + countOf b * size (rowOf (kindIn b) .each)))
 
 -- ---- the fields (01, Packet)
 abbrev pub contentIn : List ℕ → Content
-contentIn b = contentOf (formIn b) (frontIn b) (countOf b)
+contentIn b = contentOf (kindIn b) (frontIn b) (countOf b)
 
 -- the digits beside the content: what stands after its numbers, and after its bytes
 abbrev pub digitsIn : List ℕ → List ℕ
-digitsIn b = drop (numbersIn (formIn b)) (frontIn b) ++ backIn b
+digitsIn b = drop (numbersIn (kindIn b)) (frontIn b) ++ backIn b
 
 -- n zeros
 unfoldable pub zeros : ℕ → List ℕ
@@ -120,14 +120,14 @@ unfoldable pub codesOf : List ℕ → List ℕ
 codesOf b = numbersAt (times (codesIn b) code) b 24
 
 -- a kind whose repeated row has several lines has entries, and the others bytes (01, Packet: type 0)
-abbrev pub hasEntries : Form → Bool
+abbrev pub hasEntries : Kind → Bool
 hasEntries f = ltb 1 (length (rowOf f .each))
 
 -- the common fields: time, certificate and signature stand 74, 70 and 64 bytes before the end (000, table 1)
 unfoldable pub fieldsOf : List ℕ → Fields
 fieldsOf b =
     record {
-      kind = kindIn b;
+      typenumber = typeIn b;
       codes = codesIn b;
       content = contentIn b;
       digits = padded 35 (digitsIn b);
@@ -143,18 +143,18 @@ sizeBad b = not ((leb 77 (length b) && leb (length b) 250) && (eqb (length b) (l
 
 -- 26: the content has not the bytes of the column, for its kind and its count
 unfoldable pub lengthBad : List ℕ → Bool
-lengthBad b = not (eqb (contentBytes (formIn b) (countOf b)) (contentSize b))
+lengthBad b = not (eqb (contentBytes (kindIn b) (countOf b)) (contentSize b))
 
 -- 23: a type that is neither opened nor carried
-abbrev pub unknownBy : Sort → Bool
-unknownBy sort.Fixed = false
-unknownBy sort.Counted = false
-unknownBy sort.Raw = false
-unknownBy sort.Unknown = true
+abbrev pub unknownBy : Counting → Bool
+unknownBy counting.Fixed = false
+unknownBy counting.Counted = false
+unknownBy counting.Raw = false
+unknownBy counting.Unknown = true
 
 -- by its row
-abbrev pub isUnknown : Form → Bool
-isUnknown f = unknownBy (rowOf f .sort)
+abbrev pub isUnknown : Kind → Bool
+isUnknown f = unknownBy (rowOf f .counting)
 
 -- 27: a field outside its range, or no such day
 abbrev pub fieldBad : List ℕ → Bool
@@ -164,7 +164,7 @@ fieldBad b = not (fine 27 (tableOf b) (valuesIn b)) || noSuchDay (contentIn b)
 abbrev pub casesThen : List ℕ → Bool → List Case
 casesThen b x =
     (sizeBad b, 20)
-    ∷ (isUnknown (formIn b), 23)
+    ∷ (isUnknown (kindIn b), 23)
     ∷ (lengthBad b, 26)
     ∷ (not (fine 24 (tableOf b) (valuesIn b)), 24)
     ∷ (not (fine 25 (tableOf b) (valuesIn b)), 25)
@@ -182,7 +182,7 @@ readAnswer b = first (readCases b)
 -- ---- what is opened; beside a refusal all zero, the content raw (01, Numbers given back)
 unfoldable pub noFields : Fields
 noFields =
-    record { kind = 0; codes = 0; content = content.Raw; digits = zeros 35; time = 0; certificate = zeros 12; signature = zeros 64 }
+    record { typenumber = 0; codes = 0; content = content.Raw; digits = zeros 35; time = 0; certificate = zeros 12; signature = zeros 64 }
 
 -- a number and nothing beside it
 abbrev pub refusedAs : ℕ → Opened
@@ -195,7 +195,7 @@ openedBy zero b =
       answer = 0;
       fields = fieldsOf b;
       codes = padded 322 (codesOf b);
-      entries = padded 272 (cond (hasEntries (formIn b)) (bodyIn b) []);
+      entries = padded 272 (cond (hasEntries (kindIn b)) (bodyIn b) []);
     }
 openedBy (suc a) b = refusedAs (suc a)
 
@@ -211,12 +211,12 @@ partBy (suc a) from k b = []
 -- the address, the text or the raw bytes
 unfoldable pub bodyOf : List ℕ → List ℕ
 bodyOf b =
-    partBy (readAnswer b) (3 + 12 * codesIn b + partAt (rowOf (formIn b)) / 8)
-    (cond (hasEntries (formIn b)) 0 (countOf b)) b
+    partBy (readAnswer b) (3 + 12 * codesIn b + partAt (rowOf (kindIn b)) / 8)
+    (cond (hasEntries (kindIn b)) 0 (countOf b)) b
 
 -- the text, 20 bytes into the content; 27 where the type is not 15
 abbrev pub textCases : List ℕ → List Case
-textCases b = casesThen b (fieldBad b || not (eqb (kindIn b) 15))
+textCases b = casesThen b (fieldBad b || not (eqb (typeIn b) 15))
 
 -- the number that goes with the text
 unfoldable pub textAnswer : List ℕ → ℕ

@@ -6,19 +6,19 @@ use lib.Dec.{leb, eqb}
 use Rattle.laws.specs.Bits.{at}
 use Rattle.format.specs.declared.Line.{Line}
 use Rattle.format.specs.Format.{num, only, any, ones, digits, octets, just, times, size}
-use Rattle.packet.specs.declared.Form.{Form}
-use Rattle.packet.specs.declared.Form.the-variants.{Frequencies, Address, Keep, Clock, Reset, Factory, Drill, Text, Hold, Raw, Unknown}
-use Rattle.packet.specs.declared.Sort.{Sort}
-use Rattle.packet.specs.declared.Sort.the-variants as sort
+use Rattle.packet.specs.declared.Kind.{Kind}
+use Rattle.packet.specs.declared.Kind.the-variants.{Frequencies, Address, Keep, Clock, Reset, Factory, Drill, Text, Hold, Raw, Unknown}
+use Rattle.packet.specs.declared.Counting.{Counting}
+use Rattle.packet.specs.declared.Counting.the-variants as counting
 
 -- ---- the types (000, table 2), two columns: the kind as which one is read, and whether one that is read is also written
-abbrev pub pick : Bool → Form → Form → Form
+abbrev pub pick : Bool → Kind → Kind → Kind
 pick true a b = a
 pick false a b = b
 
 -- what is opened, what is carried raw, and what is refused (000, table 2; 01, What travels); type 16 since the licence ended, for old shelves (02, K13)
-unfoldable pub formOf : ℕ → Form
-formOf t =
+unfoldable pub kindOf : ℕ → Kind
+kindOf t =
     pick (eqb t 0) Frequencies
     (pick (eqb t 1) Address
     (pick (eqb t 2) Keep
@@ -39,7 +39,7 @@ abbrev pub onlyRead : ℕ → Bool
 onlyRead t = eqb t 16
 
 -- a type of each kind, for comparing kinds: the only one, but for Raw and Unknown (000, table 2)
-abbrev pub typeOf : Form → ℕ
+abbrev pub typeOf : Kind → ℕ
 typeOf Frequencies = 0
 typeOf Address = 1
 typeOf Keep = 2
@@ -52,16 +52,16 @@ typeOf Hold = 21
 typeOf Raw = 4
 typeOf Unknown = 31
 
--- the types that a reader answers 23 (01, Numbers given back); the last of the kinds above is theirs: `packet:Forms.refused-types`
+-- the types that a reader answers 23 (01, Numbers given back); the last of the kinds above is theirs: `packet:ByType.refused-types`
 abbrev pub refusedType : ℕ → Bool
 refusedType t = eqb t 9 || (eqb t 10 || ((leb 17 t && leb t 20) || leb 25 t))
 
--- and those that a writer does, 16 among them (02, K13): `packet:Forms.unwritten-types`
+-- and those that a writer does, 16 among them (02, K13): `packet:ByType.unwritten-types`
 abbrev pub unwrittenType : ℕ → Bool
 unwrittenType t = eqb t 9 || (eqb t 10 || ((leb 16 t && leb t 20) || leb 25 t))
 
 -- ---- the column of content bytes (01, Packet), k being the row's k, m or t, and the bytes of a raw content
-abbrev pub contentBytes : Form → ℕ → ℕ
+abbrev pub contentBytes : Kind → ℕ → ℕ
 contentBytes Frequencies k = 1 + 5 * k
 contentBytes Address k = 13 + k
 contentBytes Keep k = 3
@@ -76,21 +76,21 @@ contentBytes Unknown k = 0
 
 -- ---- a row of the table of contents: lines, a row of lines that is repeated, lines; where counted, the count stands after the first (01, Packet)
 pub record Row : Type 0 where
-  pub sort : Sort
+  pub counting : Counting
   pub before : List Line
   pub each : List Line
   pub after : List Line
 
 -- a row with no count
 abbrev pub fixed : List Line → Row
-fixed ls = record { sort = sort.Fixed; before = ls; each = []; after = [] }
+fixed ls = record { counting = counting.Fixed; before = ls; each = []; after = [] }
 
 -- a row whose repeated lines are counted
 abbrev pub counted : List Line → List Line → List Line → Row
-counted ls row rest = record { sort = sort.Counted; before = ls; each = row; after = rest }
+counted ls row rest = record { counting = counting.Counted; before = ls; each = row; after = rest }
 
 -- the table of contents
-abbrev pub rowOf : Form → Row
+abbrev pub rowOf : Kind → Row
 rowOf Frequencies = counted [] (num 8 1 255 ∷ any 8 ∷ digits 6 ∷ []) []
 rowOf Address = counted [] (octets 1 ∷ []) (ones 4 ∷ digits 23 ∷ [])
 rowOf Keep = fixed (num 8 0 1 ∷ any 16 ∷ [])
@@ -100,19 +100,19 @@ rowOf Factory = fixed (only 2 1 ∷ ones 6 ∷ [])
 rowOf Drill = fixed (only 4 1 ∷ num 4 1 2 ∷ ones 4 ∷ digits 35 ∷ [])
 rowOf Text = counted (num 4 1 3 ∷ num 4 0 4 ∷ ones 4 ∷ digits 35 ∷ []) (octets 1 ∷ []) []
 rowOf Hold = fixed (any 8 ∷ ones 8 ∷ [])
-rowOf Raw = record { sort = sort.Raw; before = []; each = octets 1 ∷ []; after = [] }
-rowOf Unknown = record { sort = sort.Unknown; before = []; each = []; after = [] }
+rowOf Raw = record { counting = counting.Raw; before = []; each = octets 1 ∷ []; after = [] }
+rowOf Unknown = record { counting = counting.Unknown; before = []; each = []; after = [] }
 
 -- the count of a counted content, k; it has 8 bits
-abbrev pub countLine : Sort → ℕ → List Line
-countLine sort.Fixed k = []
-countLine sort.Counted k = just 8 k ∷ []
-countLine sort.Raw k = []
-countLine sort.Unknown k = []
+abbrev pub countLine : Counting → ℕ → List Line
+countLine counting.Fixed k = []
+countLine counting.Counted k = just 8 k ∷ []
+countLine counting.Raw k = []
+countLine counting.Unknown k = []
 
 -- the lines of a content whose row stands k times
 unfoldable pub contentLines : Row → ℕ → List Line
-contentLines r k = r .before ++ (countLine (r .sort) k ++ (times k (r .each) ++ r .after))
+contentLines r k = r .before ++ (countLine (r .counting) k ++ (times k (r .each) ++ r .after))
 
 -- ---- the whole packet (000, table 1; the code n times)
 abbrev pub code : List Line
@@ -127,12 +127,12 @@ unfoldable pub packet : Row → ℕ → ℕ → ℕ → ℕ → List Line
 packet r t p n k = just 5 t ∷ just 11 (p - 2) ∷ just 8 n ∷ (times n code ++ (contentLines r k ++ ending))
 
 -- how often the row stands: as the count k says, or once a byte of the m there are
-abbrev pub countBy : Sort → ℕ → ℕ → ℕ
-countBy sort.Fixed k m = 0
-countBy sort.Counted k m = k
-countBy sort.Raw k m = m
-countBy sort.Unknown k m = 0
+abbrev pub countBy : Counting → ℕ → ℕ → ℕ
+countBy counting.Fixed k m = 0
+countBy counting.Counted k m = k
+countBy counting.Raw k m = m
+countBy counting.Unknown k m = 0
 
 -- in a content of m bytes that begins at place q of the bits l
 abbrev pub countIn : Row → List ℕ → ℕ → ℕ → ℕ
-countIn r l q m = countBy (r .sort) (at l (q + size (r .before)) 8) m
+countIn r l q m = countBy (r .counting) (at l (q + size (r .before)) 8) m

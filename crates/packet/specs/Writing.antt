@@ -8,18 +8,18 @@ use Rattle.laws.specs.Bits.{bytes}
 use Rattle.laws.specs.Refusals.{Case, first}
 use Rattle.format.specs.declared.Line.{Line}
 use Rattle.format.specs.Format.{need, encode, fill, inside, fine}
-use Rattle.packet.specs.declared.Sort.{Sort}
-use Rattle.packet.specs.declared.Sort.the-variants as sort
+use Rattle.packet.specs.declared.Counting.{Counting}
+use Rattle.packet.specs.declared.Counting.the-variants as counting
 use Rattle.packet.specs.declared.Content.{Content}
 use Rattle.packet.specs.declared.Fields.{Fields}
 use Rattle.packet.specs.declared.Written.{Written}
-use Rattle.packet.specs.Table.{formOf, onlyRead, typeOf, contentBytes, Row, rowOf, packet}
-use Rattle.packet.specs.Content.{formFor, numbersOf, countFor, noSuchDay}
+use Rattle.packet.specs.Table.{kindOf, onlyRead, typeOf, contentBytes, Row, rowOf, packet}
+use Rattle.packet.specs.Content.{kindFor, numbersOf, countFor, noSuchDay}
 use Rattle.packet.specs.Reading.{isUnknown}
 
 -- ---- the content's own row, and its numbers in the order of its lines (01, Packet)
 abbrev pub rowFor : Content → Row
-rowFor c = rowOf (formFor c)
+rowFor c = rowOf (kindFor c)
 
 -- so many digits stand before the count, and so many after the bytes
 abbrev pub digitsBefore : Content → ℕ
@@ -43,11 +43,11 @@ bodyFor c body = take (countFor c body * need (rowFor c .each)) body
 
 -- ---- the packet's size, table, numbers and bytes (01, Packet; 000, table 1)
 unfoldable pub sizeFor : Fields → List ℕ → ℕ
-sizeFor f body = 77 + 12 * f .codes + contentBytes (formFor (f .content)) (countFor (f .content) body)
+sizeFor f body = 77 + 12 * f .codes + contentBytes (kindFor (f .content)) (countFor (f .content) body)
 
 -- the lines of the whole packet
 unfoldable pub tableFor : Fields → List ℕ → List Line
-tableFor f body = packet (rowFor (f .content)) (f .kind) (sizeFor f body) (f .codes) (countFor (f .content) body)
+tableFor f body = packet (rowFor (f .content)) (f .typenumber) (sizeFor f body) (f .codes) (countFor (f .content) body)
 
 -- the numbers of all free lines, in their order
 unfoldable pub numbersFor : Fields → List ℕ → List ℕ → List ℕ
@@ -65,20 +65,20 @@ bytesFor f codes body = bytes (encode (tableFor f body) (valuesFor f codes body)
 -- ---- the answer, in the order of paper 01 (Numbers given back, Packet writer)
 -- 23: a type that is only read, or not even that
 abbrev pub notWritten : ℕ → Bool
-notWritten t = onlyRead t || isUnknown (formOf t)
+notWritten t = onlyRead t || isUnknown (kindOf t)
 
 -- 26: n, k, m or t is above 255, or is not that of what is lent; entries have as many numbers as their row
-abbrev pub lentBad : Sort → ℕ → ℕ → ℕ → Bool
-lentBad sort.Fixed k w lent = false
-lentBad sort.Counted k w lent = not (leb k 255 && eqb lent (k * w))
-lentBad sort.Raw k w lent = false
-lentBad sort.Unknown k w lent = false
+abbrev pub lentBad : Counting → ℕ → ℕ → ℕ → Bool
+lentBad counting.Fixed k w lent = false
+lentBad counting.Counted k w lent = not (leb k 255 && eqb lent (k * w))
+lentBad counting.Raw k w lent = false
+lentBad counting.Unknown k w lent = false
 
 -- of the codes or of the content
 unfoldable pub countBad : Fields → List ℕ → List ℕ → Bool
 countBad f codes body =
     not (leb (f .codes) 255 && eqb (length codes) (f .codes * 23))
-    || lentBad (rowFor (f .content) .sort) (countFor (f .content) body) (need (rowFor (f .content) .each)) (length body)
+    || lentBad (rowFor (f .content) .counting) (countFor (f .content) body) (need (rowFor (f .content) .each)) (length body)
 
 -- 25: a digit above 9, in the lines or in the places of digits that the content doesn't use
 unfoldable pub digitBad : Fields → List ℕ → List ℕ → Bool
@@ -87,14 +87,14 @@ digitBad f codes body = not (fine 25 (tableFor f body) (valuesFor f codes body))
 -- 27: content that isn't of the type named; what could not be handed back: digits that the content doesn't use, a body for a content that has none;
 -- codes for type 1, whose receivers ignore them (000, 6.1.2.3); a field outside its range; no such day
 abbrev pub otherType : Fields → Bool
-otherType f = not (eqb (typeOf (formOf (f .kind))) (typeOf (formFor (f .content))))
+otherType f = not (eqb (typeOf (kindOf (f .typenumber))) (typeOf (kindFor (f .content))))
 
 -- a body for a content that has none
-abbrev pub bodyLost : Sort → ℕ → Bool
-bodyLost sort.Fixed lent = not (eqb lent 0)
-bodyLost sort.Counted lent = false
-bodyLost sort.Raw lent = false
-bodyLost sort.Unknown lent = false
+abbrev pub bodyLost : Counting → ℕ → Bool
+bodyLost counting.Fixed lent = not (eqb lent 0)
+bodyLost counting.Counted lent = false
+bodyLost counting.Raw lent = false
+bodyLost counting.Unknown lent = false
 
 -- digits in places that the content does not use
 abbrev pub digitsLost : Content → List ℕ → Bool
@@ -104,15 +104,15 @@ digitsLost c ds = not (inside 0 0 (drop (digitsBefore c + digitsAfter c) ds))
 unfoldable pub notTaken : Fields → List ℕ → List ℕ → Bool
 notTaken f codes body =
     otherType f
-    || (bodyLost (rowFor (f .content) .sort) (length body)
+    || (bodyLost (rowFor (f .content) .counting) (length body)
     || (digitsLost (f .content) (f .digits)
-    || ((eqb (f .kind) 1 && not (eqb (f .codes) 0))
+    || ((eqb (f .typenumber) 1 && not (eqb (f .codes) 0))
     || (not (fine 27 (tableFor f body) (valuesFor f codes body)) || noSuchDay (f .content)))))
 
 -- the writer's cases
 abbrev pub writeCases : Fields → List ℕ → List ℕ → ℕ → List Case
 writeCases f codes body room =
-    (notWritten (f .kind), 23)
+    (notWritten (f .typenumber), 23)
     ∷ (countBad f codes body, 26)
     ∷ (digitBad f codes body, 25)
     ∷ (notTaken f codes body, 27)

@@ -4,15 +4,15 @@ mod rows;
 mod table;
 
 ghost use mathlib.Core.Path.{_≡_};
-ghost use Rattle.packet.specs.Table.{formOf, typeOf, rowOf, code, ending};
-ghost use Rattle.packet.specs.Shape.{Listed, Shaped};
+ghost use Rattle.packet.specs.Table.{kindOf, typeOf, rowOf, code, ending};
+ghost use Rattle.packet.specs.InCode.{Listed, StandsFor};
 ghost use Rattle.packet.specs.Content.{noSuchDay};
 ghost use Rattle.packet.specs.Reading.{sizesOf, isUnknown, hasEntries};
 ghost use Rattle.packet.specs.Writing.{notWritten};
 use format::Line;
 
 // The kinds of content (000, tables 3 to 6, 13 to 16 and 18); Raw is carried unopened, Unknown refused.
-pub enum Form {
+pub enum Kind {
     Frequencies,
     Address,
     Keep,
@@ -27,7 +27,7 @@ pub enum Form {
 }
 
 // Lines alone; lines, a count, a row as often as it says, lines; bytes, as many as there are; nothing known.
-pub enum Sort {
+pub enum Counting {
     Fixed,
     Counted,
     Raw,
@@ -41,8 +41,8 @@ pub struct Lines {
 }
 
 // A row of the table of contents: lines, a row that is repeated, lines.
-pub struct Shape {
-    pub sort: Sort,
+pub struct RowLines {
+    pub counting: Counting,
     pub before: Lines,
     pub each: Lines,
     pub after: Lines,
@@ -98,7 +98,7 @@ pub enum Content {
 
 // The fields that every packet has, the opened content among them; codes is the count n.
 pub struct Fields {
-    pub kind: u8,
+    pub typenumber: u8,
     pub codes: usize,
     pub content: Content,
     pub digits: [u8; 35],
@@ -122,43 +122,43 @@ pub struct Written {
 }
 
 // The kind of a type (000, table 2).
-pub fn form_of(t: u8) -> Form
-    ensures { λ r. ⌜ r ≡ formOf t ⌝ }
+pub fn kind_of(t: u8) -> Kind
+    ensures { λ r. ⌜ r ≡ kindOf t ⌝ }
 {
     match t {
-        0 => Form::Frequencies,
-        1 => Form::Address,
-        2 => Form::Keep,
-        3 => Form::Clock,
-        12 => Form::Reset,
-        13 => Form::Factory,
-        14 => Form::Drill,
-        15 => Form::Text,
-        16 => Form::Raw,
-        21 => Form::Hold,
-        4..=8 => Form::Raw,
-        11 => Form::Raw,
-        22..=24 => Form::Raw,
-        _ => Form::Unknown,
+        0 => Kind::Frequencies,
+        1 => Kind::Address,
+        2 => Kind::Keep,
+        3 => Kind::Clock,
+        12 => Kind::Reset,
+        13 => Kind::Factory,
+        14 => Kind::Drill,
+        15 => Kind::Text,
+        16 => Kind::Raw,
+        21 => Kind::Hold,
+        4..=8 => Kind::Raw,
+        11 => Kind::Raw,
+        22..=24 => Kind::Raw,
+        _ => Kind::Unknown,
     }
 }
 
 // A type of the kind, by which kinds are compared.
-pub fn type_of(f: Form) -> u8
+pub fn type_of(f: Kind) -> u8
     ensures { λ r. ⌜ r ≡ typeOf f ⌝ }
 {
     match f {
-        Form::Frequencies => 0,
-        Form::Address => 1,
-        Form::Keep => 2,
-        Form::Clock => 3,
-        Form::Reset => 12,
-        Form::Factory => 13,
-        Form::Drill => 14,
-        Form::Text => 15,
-        Form::Hold => 21,
-        Form::Raw => 4,
-        Form::Unknown => 31,
+        Kind::Frequencies => 0,
+        Kind::Address => 1,
+        Kind::Keep => 2,
+        Kind::Clock => 3,
+        Kind::Reset => 12,
+        Kind::Factory => 13,
+        Kind::Drill => 14,
+        Kind::Text => 15,
+        Kind::Hold => 21,
+        Kind::Raw => 4,
+        Kind::Unknown => 31,
     }
 }
 
@@ -180,30 +180,30 @@ pub fn ending_lines() -> Lines
 }
 
 // The row of a kind in the table of contents.
-pub fn row_of(f: Form) -> Shape
-    ensures { λ r. ⌜ Shaped r (rowOf f) ⌝ }
+pub fn row_of(f: Kind) -> RowLines
+    ensures { λ r. ⌜ StandsFor r (rowOf f) ⌝ }
 {
     match f {
-        Form::Frequencies => table::frequencies(),
-        Form::Address => table::address(),
-        Form::Keep => table::keep(),
-        Form::Clock => table::clock(),
-        Form::Reset => table::reset(),
-        Form::Factory => table::factory(),
-        Form::Drill => table::drill(),
-        Form::Text => table::text(),
-        Form::Hold => table::hold(),
-        Form::Raw => table::raw(),
-        Form::Unknown => table::unknown(),
+        Kind::Frequencies => table::frequencies(),
+        Kind::Address => table::address(),
+        Kind::Keep => table::keep(),
+        Kind::Clock => table::clock(),
+        Kind::Reset => table::reset(),
+        Kind::Factory => table::factory(),
+        Kind::Drill => table::drill(),
+        Kind::Text => table::text(),
+        Kind::Hold => table::hold(),
+        Kind::Raw => table::raw(),
+        Kind::Unknown => table::unknown(),
     }
 }
 
 // The sizes of a kind's row.
-pub fn sizes_of(f: Form) -> Sizes
+pub fn sizes_of(f: Kind) -> Sizes
     ensures { λ r. ⌜ r ≡ sizesOf f ⌝ }
 {
     let s = row_of(f);
-    let sort = s.sort;
+    let counting = s.counting;
     let before = s.before;
     let each = s.each;
     let after = s.after;
@@ -211,7 +211,7 @@ pub fn sizes_of(f: Form) -> Sizes
     let e = measures::of_lines(each);
     let z = measures::of_lines(after);
     Sizes {
-        lead: a.bits + measures::count_bits(sort),
+        lead: a.bits + measures::count_bits(counting),
         each: e.bits,
         rest: z.bits,
         first: a.numbers,
@@ -221,16 +221,16 @@ pub fn sizes_of(f: Form) -> Sizes
 }
 
 // A kind that is neither opened nor carried.
-pub fn is_unknown(f: Form) -> bool
+pub fn is_unknown(f: Kind) -> bool
     ensures { λ r. ⌜ r ≡ isUnknown f ⌝ }
 {
     let s = row_of(f);
-    let sort = s.sort;
-    match sort {
-        Sort::Fixed => false,
-        Sort::Counted => false,
-        Sort::Raw => false,
-        Sort::Unknown => true,
+    let counting = s.counting;
+    match counting {
+        Counting::Fixed => false,
+        Counting::Counted => false,
+        Counting::Raw => false,
+        Counting::Unknown => true,
     }
 }
 
@@ -241,11 +241,11 @@ pub fn not_written(t: u8) -> bool
     if t == 16 {
         return true;
     }
-    is_unknown(form_of(t))
+    is_unknown(kind_of(t))
 }
 
 // A kind with entries: each of its rows has several lines.
-pub fn has_entries(f: Form) -> bool
+pub fn has_entries(f: Kind) -> bool
     ensures { λ r. ⌜ r ≡ hasEntries f ⌝ }
 {
     let s = row_of(f);

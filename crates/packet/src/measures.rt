@@ -6,8 +6,8 @@ ghost use lib.ListN.{take};
 ghost use Rattle.laws.specs.Scan.{all};
 ghost use Rattle.format.specs.Format.{size, need, own, sound};
 ghost use Rattle.packet.specs.Reading.{countSize};
+use crate::Counting;
 use crate::Lines;
-use crate::Sort;
 use format::Line;
 
 // Bits, and numbers.
@@ -18,17 +18,17 @@ pub(crate) struct Measure {
 
 fn width(t: Line) -> usize
     requires { ⌜ sound t ≡ true ⌝ }
-    ensures { λ r. ⌜ (r ≡ t .n * t .w) × (r ≤ 2048) ⌝ }
+    ensures { λ r. ⌜ (r ≡ t .count * t .width) × (r ≤ 2048) ⌝ }
 {
-    t.n * t.w
+    t.count * t.width
 }
 
 fn taken(t: Line) -> usize
     requires { ⌜ sound t ≡ true ⌝ }
     ensures { λ r. ⌜ (r ≡ own t) × (r ≤ 64) ⌝ }
 {
-    let free = t.free;
-    if free { t.n } else { 0 }
+    let free = t.given;
+    if free { t.count } else { 0 }
 }
 
 // Those of lines.
@@ -54,13 +54,13 @@ pub(crate) fn of_lines(ts: Lines) -> Measure
 }
 
 // The bits of the count, where there is one.
-pub(crate) fn count_bits(sort: Sort) -> usize
-    ensures { λ r. ⌜ r ≡ countSize sort ⌝ }
+pub(crate) fn count_bits(counting: Counting) -> usize
+    ensures { λ r. ⌜ r ≡ countSize counting ⌝ }
 {
-    match sort {
-        Sort::Fixed => 0,
-        Sort::Counted => 8,
-        Sort::Raw => 0,
-        Sort::Unknown => 0,
+    match counting {
+        Counting::Fixed => 0,
+        Counting::Counted => 8,
+        Counting::Raw => 0,
+        Counting::Unknown => 0,
     }
 }

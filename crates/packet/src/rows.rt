@@ -4,11 +4,11 @@ ghost use mathlib.Core.List.{[], _∷_};
 ghost use Prim.Native.Nat.{_-_, _^_};
 ghost use lib.ListN.{take};
 ghost use Rattle.format.specs.Format.{num, only, any, ones, digits, octets};
-ghost use Rattle.packet.specs.Shape.{Listed, Shaped};
+ghost use Rattle.packet.specs.InCode.{Listed, StandsFor};
 ghost use Rattle.packet.specs.Table.{fixed, counted};
+use crate::Counting;
 use crate::Lines;
-use crate::Shape;
-use crate::Sort;
+use crate::RowLines;
 use format::Line;
 
 // A number of w bits, lo to hi.
@@ -16,12 +16,12 @@ pub(crate) fn a_num(w: usize, lo: u32, hi: u32) -> Line
     ensures { λ r. ⌜ r ≡ num w lo hi ⌝ }
 {
     Line {
-        n: 1,
-        w: w,
+        count: 1,
+        width: w,
         lo: lo,
         hi: hi,
-        other: 27,
-        free: true,
+        answer: 27,
+        given: true,
     }
 }
 
@@ -30,12 +30,12 @@ pub(crate) fn an_only(w: usize, x: u32) -> Line
     ensures { λ r. ⌜ r ≡ only w x ⌝ }
 {
     Line {
-        n: 1,
-        w: w,
+        count: 1,
+        width: w,
         lo: x,
         hi: x,
-        other: 27,
-        free: false,
+        answer: 27,
+        given: false,
     }
 }
 
@@ -45,12 +45,12 @@ pub(crate) fn an_any(w: usize, x: u32) -> Line
     ensures { λ r. ⌜ r ≡ any w ⌝ }
 {
     Line {
-        n: 1,
-        w: w,
+        count: 1,
+        width: w,
         lo: 0,
         hi: x,
-        other: 0,
-        free: true,
+        answer: 0,
+        given: true,
     }
 }
 
@@ -60,12 +60,12 @@ pub(crate) fn a_ones(w: usize, x: u32) -> Line
     ensures { λ r. ⌜ r ≡ ones w ⌝ }
 {
     Line {
-        n: 1,
-        w: w,
+        count: 1,
+        width: w,
         lo: x,
         hi: x,
-        other: 24,
-        free: false,
+        answer: 24,
+        given: false,
     }
 }
 
@@ -74,12 +74,12 @@ pub(crate) fn a_digits(n: usize) -> Line
     ensures { λ r. ⌜ r ≡ digits n ⌝ }
 {
     Line {
-        n: n,
-        w: 4,
+        count: n,
+        width: 4,
         lo: 0,
         hi: 9,
-        other: 25,
-        free: true,
+        answer: 25,
+        given: true,
     }
 }
 
@@ -88,12 +88,12 @@ pub(crate) fn an_octets(n: usize) -> Line
     ensures { λ r. ⌜ r ≡ octets n ⌝ }
 {
     Line {
-        n: n,
-        w: 8,
+        count: n,
+        width: 8,
         lo: 0,
         hi: 255,
-        other: 0,
-        free: true,
+        answer: 0,
+        given: true,
     }
 }
 
@@ -157,13 +157,13 @@ pub(crate) fn six_lines(a: Line, b: Line, c: Line, d: Line, e: Line, f: Line) ->
 }
 
 // A content of these lines alone.
-pub(crate) fn fixed_row(ls: Lines) -> Shape
+pub(crate) fn fixed_row(ls: Lines) -> RowLines
     requires { ⌜ Listed ls (take (ls .m) (ls .all)) ⌝ }
-    ensures { λ r. ⌜ Shaped r (fixed (take (ls .m) (ls .all))) ⌝ }
+    ensures { λ r. ⌜ StandsFor r (fixed (take (ls .m) (ls .all))) ⌝ }
 {
     let none = no_lines();
-    Shape {
-        sort: Sort::Fixed,
+    RowLines {
+        counting: Counting::Fixed,
         before: ls,
         each: none,
         after: none,
@@ -171,12 +171,12 @@ pub(crate) fn fixed_row(ls: Lines) -> Shape
 }
 
 // A content with a count: lines, the count, a row as often as it says, lines.
-pub(crate) fn counted_row(ls: Lines, row: Lines, rest: Lines) -> Shape
+pub(crate) fn counted_row(ls: Lines, row: Lines, rest: Lines) -> RowLines
     requires { ⌜ Listed ls (take (ls .m) (ls .all)) × Listed row (take (row .m) (row .all)) × Listed rest (take (rest .m) (rest .all)) ⌝ }
-    ensures { λ r. ⌜ Shaped r (counted (take (ls .m) (ls .all)) (take (row .m) (row .all)) (take (rest .m) (rest .all))) ⌝ }
+    ensures { λ r. ⌜ StandsFor r (counted (take (ls .m) (ls .all)) (take (row .m) (row .all)) (take (rest .m) (rest .all))) ⌝ }
 {
-    Shape {
-        sort: Sort::Counted,
+    RowLines {
+        counting: Counting::Counted,
         before: ls,
         each: row,
         after: rest,

@@ -20,7 +20,7 @@ use Rattle.stories.specs.Tales.{zeros, untold, isStory, isHeard, textAt, isWhol
 use Rattle.stories.specs.Stories.{taleOf, movedLast, leaves, after, kept, repeated, takeAnswer, shownText, takenBy, takenIn}
 use Rattle.pier.specs.Given.{takenAll}
 use Rattle.pier.proofs.Lists.{find, find-is, moved-on, moved-length}
-use Rattle.pier.proofs.Texts.{Shaped, taken-shaped, taken-none, with-text, with-shaped, other-heard, other-text}
+use Rattle.pier.proofs.Texts.{StandsFor, taken-shaped, taken-none, with-text, with-shaped, other-heard, other-text}
 use Rattle.pier.proofs.Keys.{story-number, found-passes, Right, right}
 use Rattle.pier.proofs.Keeping.{AllShaped, no-tale, and-tale, all-fair, untold-shaped}
 
@@ -37,7 +37,7 @@ pub record Came (bs : List (List ℕ)) (p : Tale) (k : ℕ) : Type 0 where
 
 -- every part that a place has came, and the place is shaped
 record Sourced (bs : List (List ℕ)) (p : Tale) : Type 0 where
-  shaped : Shaped p
+  shaped : StandsFor p
   came : (k : ℕ) → k < 9 → isHeard p k ≡ true → Came bs p k
 
 data AllSourced (bs : List (List ℕ)) : List Tale → Type 0 where

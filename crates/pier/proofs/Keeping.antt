@@ -18,32 +18,32 @@ use Rattle.stories.specs.Tales.{zeros, untold, blank, isStory, fair, isHeard, t
 use Rattle.stories.specs.Stories.{movedLast}
 use Rattle.pier.specs.Given.{sameStory, came, storyCount, given}
 use Rattle.pier.proofs.Lists.{find, find-is, one, count, moved-on, moved-length, moved-count, find-other, find-own, isHeld, freeFirst, moved-free-first, first-held}
-use Rattle.pier.proofs.Texts.{Shaped, shaped-fair, taken-shaped, taken-none, with-heard, with-text, with-shaped, other-heard, other-text}
+use Rattle.pier.proofs.Texts.{StandsFor, shaped-fair, taken-shaped, taken-none, with-heard, with-text, with-shaped, other-heard, other-text}
 use Rattle.pier.proofs.Keys.{story-self, find-same, count-same, given-same, story-own, story-other, story-number, unheld-none, found-passes, found-none, Right}
 
 -- every one is shaped
 pub data AllShaped : List Tale → Type 0 where
   no-tale : AllShaped []
-  and-tale : {p : Tale} {ps : List Tale} → Shaped p → AllShaped ps → AllShaped (p ∷ ps)
+  and-tale : {p : Tale} {ps : List Tale} → StandsFor p → AllShaped ps → AllShaped (p ∷ ps)
 
 pub all-fair : {ps : List Tale} → AllShaped ps → all fair ps ≡ true
 unfolding all
 all-fair no-tale = refl
 all-fair (and-tale {p} {ps} s r) = all-cons fair p ps (shaped-fair p s) (all-fair r)
 
-found-shaped : (f : Tale → Bool) (ps : List Tale) → AllShaped ps → find f ps .held ≡ true → Shaped (find f ps)
+found-shaped : (f : Tale → Bool) (ps : List Tale) → AllShaped ps → find f ps .held ≡ true → StandsFor (find f ps)
 unfolding find
 found-shaped f [] no-tale h = absurd (false≢true h)
 found-shaped f (p ∷ ps) (and-tale s r) h =
     by-test (f p)
-    (λ t. subst Shaped (sym (if-yes p (find f ps) t)) s)
-    (λ t. subst Shaped (sym (if-no p (find f ps) t)) (found-shaped f ps r (ap (λ (q : Tale). q .held) (sym (if-no p (find f ps) t)) ∙ h)))
+    (λ t. subst StandsFor (sym (if-yes p (find f ps) t)) s)
+    (λ t. subst StandsFor (sym (if-no p (find f ps) t)) (found-shaped f ps r (ap (λ (q : Tale). q .held) (sym (if-no p (find f ps) t)) ∙ h)))
 
-shaped-behind : (ps : List Tale) (q : Tale) → AllShaped ps → Shaped q → AllShaped (ps ++ (q ∷ []))
+shaped-behind : (ps : List Tale) (q : Tale) → AllShaped ps → StandsFor q → AllShaped (ps ++ (q ∷ []))
 shaped-behind [] q no-tale t = and-tale t no-tale
 shaped-behind (p ∷ ps) q (and-tale s r) t = and-tale s (shaped-behind ps q r t)
 
-shaped-moved : (ps : List Tale) (j : ℕ) (q : Tale) → j < length ps → AllShaped ps → Shaped q → AllShaped (movedLast ps j q)
+shaped-moved : (ps : List Tale) (j : ℕ) (q : Tale) → j < length ps → AllShaped ps → StandsFor q → AllShaped (movedLast ps j q)
 shaped-moved [] j q h no-tale t = absurd (omega arith)
 shaped-moved (p ∷ ps) zero q h (and-tale s r) t = shaped-behind ps q r t
 shaped-moved (p ∷ ps) (suc j) q h (and-tale s r) t = subst AllShaped (sym (moved-on p q ps j)) (and-tale s (shaped-moved ps j q (omega arith) r t))
@@ -70,7 +70,7 @@ pub record Kept (bs : List (List ℕ)) (ps : List Tale) : Type 0 where
   pub told : (x : Part) → find (isStory x) ps .held ≡ came x bs
   pub texts : (x : Part) (k : ℕ) → k < 9 → heldText (find (isStory x) ps) k ≡ given bs x k
 
-pub untold-shaped : Shaped untold
+pub untold-shaped : StandsFor untold
 unfolding zeros all
 untold-shaped = record { nine = refl; room = length-replicate {A = ℕ} 1341 0; short = refl; low = λ h. absurd (false≢true h); high = λ h. absurd (false≢true h) }
 
@@ -94,7 +94,7 @@ module _ (bs : List (List ℕ)) (ps : List Tale) (w : Kept bs ps) (b : List ℕ)
     pub held : p .held ≡ true
     pub number : p .number ≡ partOf b .number
     pub total : p .total ≡ partOf b .total
-    pub shaped : Shaped p
+    pub shaped : StandsFor p
     pub before : (i : ℕ) → i < 9 → heldText p i ≡ given bs (partOf b) i
     pub inside : j < length ps
     pub other : (y : Part) → sameStory (partOf b) y ≡ false → isStory y (getD ps j blank) ≡ false

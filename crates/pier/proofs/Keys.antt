@@ -12,7 +12,7 @@ use Rattle.laws.specs.Scan.{indexOf}
 use Rattle.laws.proofs.Cases.{if-yes, if-no, and-yes, and-both, and-left}
 use Rattle.laws.proofs.Elements.{by-test, index-yes, index-no}
 use Rattle.packet.specs.Table.{rowOf}
-use Rattle.packet.specs.Reading.{codesIn, formIn, countOf, partAt, hasEntries, partBy, readAnswer, textAnswer, bodyOf}
+use Rattle.packet.specs.Reading.{codesIn, kindIn, countOf, partAt, hasEntries, partBy, readAnswer, textAnswer, bodyOf}
 use Rattle.packet.proofs.Accepted.{accepted, text-there, text-from, body-inside}
 use Rattle.story.specs.Joining.{isPart, setIn, headed, digitsOf}
 use Rattle.laws.specs.Lists.{same}
@@ -127,8 +127,8 @@ body-short b e =
     let t = text-there b (eqb-true (textAnswer b) 0 (and-both (eqb (textAnswer b) 0) (eqb (setIn b) 0) e .0)) in
     let a = accepted b (t .0) in
     let f = text-from b (t .1) in
-    let from = 3 + 12 * codesIn b + partAt (rowOf (formIn b)) / 8 in
-    let n = cond (hasEntries (formIn b)) 0 (countOf b) in
+    let from = 3 + 12 * codesIn b + partAt (rowOf (kindIn b)) / 8 in
+    let n = cond (hasEntries (kindIn b)) 0 (countOf b) in
     let z : partBy (readAnswer b) from n b ≡ take n (drop from b) = ap (λ (r : ℕ). partBy r from n b) (t .0) in
     let l = length-take n (drop from b) in
     omega (arith, ap length z, l, body-inside b a, f .0, a .most)

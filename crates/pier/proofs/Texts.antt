@@ -49,25 +49,25 @@ module _ {A : Type 0} where
       ∙ take-at vs (drop (b + length vs) l) (length vs) refl
 
 -- ---- what the types give, and 28 asks for
-pub record Shaped (p : Tale) : Type 0 where
+pub record StandsFor (p : Tale) : Type 0 where
   pub nine : length (p .lengths) ≡ 9
   pub room : length (p .bytes) ≡ 1341
   pub short : all (λ (n : ℕ). leb n 153) (p .lengths) ≡ true
   pub low : p .held ≡ true → 1 ≤ p .total
   pub high : p .held ≡ true → p .total ≤ 9
 
-pub shaped-fair : (p : Tale) → Shaped p → fair p ≡ true
+pub shaped-fair : (p : Tale) → StandsFor p → fair p ≡ true
 unfolding fair
 shaped-fair p s =
     by-test (p .held)
     (λ t. or-no _ (ap not t) ∙ and-yes _ (le-leb 1 (p .total) (s .low t)) ∙ and-yes _ (le-leb (p .total) 9 (s .high t)) ∙ s .short)
     (λ t. or-yes _ (ap not t))
 
-pub short-at : (p : Tale) → Shaped p → (k : ℕ) → k < 9 → getD (p .lengths) k 0 ≤ 153
+pub short-at : (p : Tale) → StandsFor p → (k : ℕ) → k < 9 → getD (p .lengths) k 0 ≤ 153
 short-at p s k h = leb-true _ _ (all-at (λ (n : ℕ). leb n 153) (p .lengths) k 0 (s .short) (omega (arith, s .nine)))
 
 -- a place taken for a story
-pub taken-shaped : (x : Part) → 1 ≤ x .total → x .total ≤ 9 → Shaped (takenFor x)
+pub taken-shaped : (x : Part) → 1 ≤ x .total → x .total ≤ 9 → StandsFor (takenFor x)
 unfolding zeros all
 taken-shaped x low high = record { nine = refl; room = length-replicate {A = ℕ} 1341 0; short = refl; low = λ t. low; high = λ t. high }
 
@@ -75,7 +75,7 @@ pub taken-none : (x : Part) (k : ℕ) → k < 9 → isHeard (takenFor x) k ≡ f
 unfolding isHeard zeros
 taken-none x k h = ap (λ (n : ℕ). not (eqb n 0)) (getD-replicate 9 k 0 0 h)
 
-module _ (p : Tale) (s : Shaped p) (k : ℕ) (t : List ℕ) (h : k < 9) (g : length t ≤ 149) where
+module _ (p : Tale) (s : StandsFor p) (k : ℕ) (t : List ℕ) (h : k < 9) (g : length t ≤ 149) where
   fits : 149 * k + length t ≤ length (p .bytes)
   fits = omega (arith, s .room)
 
@@ -92,7 +92,7 @@ module _ (p : Tale) (s : Shaped p) (k : ℕ) (t : List ℕ) (h : k < 9) (g : len
       let e : getD (set (p .lengths) k (4 + length t)) k 0 - 4 ≡ length t = omega (arith, own-length) in
       ap (λ (n : ℕ). take n (drop (149 * k) (sets (p .bytes) (149 * k) t))) e ∙ window-own (p .bytes) t (149 * k) fits
 
-  pub with-shaped : Shaped (withText p k t)
+  pub with-shaped : StandsFor (withText p k t)
   with-shaped =
       record {
         nine = length-set (p .lengths) k (4 + length t) ∙ s .nine;

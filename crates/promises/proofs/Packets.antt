@@ -12,9 +12,9 @@ use Rattle.laws.proofs.Refusals.{stop, pass}
 use Rattle.packet.specs.declared.Fields.{Fields}
 use Rattle.packet.specs.declared.Written.{Written}
 use Rattle.packet.specs.Table.{refusedType, unwrittenType}
-use Rattle.packet.specs.Reading.{kindIn, sizeBad, readCases, readAnswer, textCases, textAnswer, opened, refusedAs, bodyOf, textOf}
+use Rattle.packet.specs.Reading.{typeIn, sizeBad, readCases, readAnswer, textCases, textAnswer, opened, refusedAs, bodyOf, textOf}
 use Rattle.packet.specs.Writing.{writeCases, writtenAnswer, written, packetOutput, sizeFor, bytesFor}
-use Rattle.packet.proofs.Forms.{refused-types, unwritten-types}
+use Rattle.packet.proofs.ByType.{refused-types, unwritten-types}
 use Rattle.packet.proofs.Refused.{not-opened, no-part, not-written}
 use Rattle.trips.proofs.Answers.{then-apart, write-apart, read-answer, write-answer, read-exact, write-exact}
 use Rattle.promises.specs.Exactly.{Exactly}
@@ -33,19 +33,19 @@ packet-answer-exact = (
 )
 
 -- 23 comes exactly for types 9, 10, 17 to 20 and 25 or above, of the reader where the size is right; of the writer always, and for type 16 too.
-pub types-refused : ((packet : List ℕ) → (opened packet .answer ≡ 23) ↔ ((refusedType (kindIn packet) ≡ true) × (sizeBad packet ≡ false)))
-    × ((f : Fields) (codes body : List ℕ) (room : ℕ) → (written f codes body room .answer ≡ 23) ↔ (unwrittenType (f .kind) ≡ true))
+pub types-refused : ((packet : List ℕ) → (opened packet .answer ≡ 23) ↔ ((refusedType (typeIn packet) ≡ true) × (sizeBad packet ≡ false)))
+    × ((f : Fields) (codes body : List ℕ) (room : ℕ) → (written f codes body room .answer ≡ 23) ↔ (unwrittenType (f .typenumber) ≡ true))
 unfolding none readAnswer writtenAnswer
 types-refused = (
   λ b.
       let x = read-exact b 1 (omega arith) in (
-        λ e. let y = x .0 (sym (read-answer b) ∙ e) in (sym (refused-types (kindIn b)) ∙ y .0, alone (sizeBad b) (y .1)),
-        λ y. read-answer b ∙ pass 20 _ (y .1) ∙ stop 23 _ (refused-types (kindIn b) ∙ y .0),
+        λ e. let y = x .0 (sym (read-answer b) ∙ e) in (sym (refused-types (typeIn b)) ∙ y .0, alone (sizeBad b) (y .1)),
+        λ y. read-answer b ∙ pass 20 _ (y .1) ∙ stop 23 _ (refused-types (typeIn b) ∙ y .0),
       ),
   λ f codes body room.
       let x = write-exact f codes body room 0 (omega arith) in (
-        λ e. sym (unwritten-types (f .kind)) ∙ x .0 (sym (write-answer f codes body room) ∙ e) .0,
-        λ y. write-answer f codes body room ∙ stop 23 _ (unwritten-types (f .kind) ∙ y),
+        λ e. sym (unwritten-types (f .typenumber)) ∙ x .0 (sym (write-answer f codes body room) ∙ e) .0,
+        λ y. write-answer f codes body room ∙ stop 23 _ (unwritten-types (f .typenumber) ∙ y),
       ),
 )
   where

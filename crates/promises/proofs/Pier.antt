@@ -10,11 +10,11 @@ use Rattle.block.specs.Block.{syndrome, checkWord}
 use Rattle.frame.specs.Heading.{fixed, reserved, outside, refusals, headingFields, headingOf, headingBits, headingWords, headingBytes}
 use Rattle.air.specs.OnAir.{framesFor}
 use Rattle.format.specs.Format.{times, size, need, encode, fill, inside, fine}
-use Rattle.packet.specs.Table.{formOf, contentLines, packet}
+use Rattle.packet.specs.Table.{kindOf, contentLines, packet}
 use Rattle.days.specs.Days.{leap, daysIn}
 use Rattle.packet.specs.Writing.{frontFor, backFor, bodyFor, sizeFor, tableFor, numbersFor, bytesFor, countBad, digitBad, notTaken, writtenAnswer, written, packetOutput}
 use Rattle.promises.specs.Pier.{holds, examples}
 
 pub pier : (lent a b c d : ℕ) → all (holds lent a b c d) examples ≡ true
-unfolding all holds examples checkWord syndrome remainder reduce at bitsOf run spread first fixed reserved outside refusals headingFields headingOf headingBits headingWords headingBytes framesFor times size need encode fill inside fine formOf contentLines packet leap daysIn frontFor backFor bodyFor sizeFor tableFor numbersFor bytesFor countBad digitBad notTaken writtenAnswer written packetOutput
+unfolding all holds examples checkWord syndrome remainder reduce at bitsOf run spread first fixed reserved outside refusals headingFields headingOf headingBits headingWords headingBytes framesFor times size need encode fill inside fine kindOf contentLines packet leap daysIn frontFor backFor bodyFor sizeFor tableFor numbersFor bytesFor countBad digitBad notTaken writtenAnswer written packetOutput
 pier lent a b c d = refl

@@ -9,10 +9,10 @@ use Rattle.laws.proofs.Bits.{bytes-bits}
 use Rattle.format.specs.declared.Line.{Line}
 use Rattle.format.specs.Format.{octets}
 use Rattle.packet.specs.declared.Lines.{Lines}
-use Rattle.packet.specs.declared.Shape.{Shape}
-use Rattle.packet.specs.declared.Sort.{Sort}
+use Rattle.packet.specs.declared.RowLines.{RowLines}
+use Rattle.packet.specs.declared.Counting.{Counting}
 use Rattle.packet.specs.Table.{Row}
-use Rattle.packet.specs.Shape.{Listed, Shaped}
+use Rattle.packet.specs.InCode.{Listed, StandsFor}
 use Rattle.promises.specs.Sixes.{Sized}
 
 -- Whatever a contract says the answer equals, any two answers that it allows are equal.
@@ -42,10 +42,10 @@ one-listing r s ts a b h k =
     ap₂ (λ (m : ℕ) (all : List Line). record { m = m; all = all }) (one-answer (length ts) (r .m) (s .m) (x .0) (y .0)) (one-answer (ts ++ replicate (6 - length ts) (octets 0)) (r .all) (s .all) (x .1) (y .1))
 
 -- Any two answers that give a row of the table are equal.
-pub one-row : (r s : Shape) (t : Row) → Sized r → Sized s → Shaped r t → Shaped s t → r ≡ s
+pub one-row : (r s : RowLines) (t : Row) → Sized r → Sized s → StandsFor r t → StandsFor s t → r ≡ s
 one-row r s t a b h k =
     let first = one-listing (r .before) (s .before) (t .before) (a .first) (b .first) (h .first) (k .first) in
     let rows = one-listing (r .each) (s .each) (t .each) (a .rows) (b .rows) (h .rows) (k .rows) in
     let last = one-listing (r .after) (s .after) (t .after) (a .last) (b .last) (h .last) (k .last) in
-    ap₂ (λ (x : Sort) (y : Lines). record { sort = x; before = y; each = r .each; after = r .after }) (one-answer (t .sort) (r .sort) (s .sort) (h .same) (k .same)) first
-    ∙ ap₂ (λ (y z : Lines). record { sort = s .sort; before = s .before; each = y; after = z }) rows last
+    ap₂ (λ (x : Counting) (y : Lines). record { counting = x; before = y; each = r .each; after = r .after }) (one-answer (t .counting) (r .counting) (s .counting) (h .same) (k .same)) first
+    ∙ ap₂ (λ (y z : Lines). record { counting = s .counting; before = s .before; each = y; after = z }) rows last

@@ -17,17 +17,17 @@ use Rattle.laws.proofs.Refusals.{stop, pass, none-left}
 use Rattle.format.specs.declared.Line.{Line}
 use Rattle.format.specs.Format.{times, size, decode, fine}
 use Rattle.format.proofs.Tables.{fine-append, size-times, unmet-fine}
-use Rattle.packet.specs.declared.Form.{Form}
-use Rattle.packet.specs.declared.Sort.{Sort}
-use Rattle.packet.specs.declared.Sort.the-variants as sort
+use Rattle.packet.specs.declared.Kind.{Kind}
+use Rattle.packet.specs.declared.Counting.{Counting}
+use Rattle.packet.specs.declared.Counting.the-variants as counting
 use Rattle.packet.specs.Table.{Row, contentBytes, rowOf, countLine, countIn, contentLines, code, ending, packet}
 use Rattle.packet.specs.declared.Sizes.{Sizes}
 use Rattle.packet.proofs.Good.{good}
-use Rattle.packet.specs.Reading.{isUnknown, sizesOf, lengthIn, codesIn, formIn, contentAt, contentSize, countOf, partAt, tableOf, valuesIn, sizeBad, lengthBad, fieldBad, readCases, readAnswer, textAnswer, textOf, bodyOf, hasEntries}
-use Rattle.packet.proofs.Forms.{below-not}
+use Rattle.packet.specs.Reading.{isUnknown, sizesOf, lengthIn, codesIn, kindIn, contentAt, contentSize, countOf, partAt, tableOf, valuesIn, sizeBad, lengthBad, fieldBad, readCases, readAnswer, textAnswer, textOf, bodyOf, hasEntries}
+use Rattle.packet.proofs.ByType.{below-not}
 use Rattle.packet.proofs.Column.{count-size, content-size, column}
 use Rattle.packet.proofs.Accepted.{no-size}
-pub use Rattle.packet.proofs.Accepted.{Sized, sized, Accepted, accepted, right-size, text-there, text-inside, body-inside, later, later-not, text-later}
+pub use Rattle.packet.proofs.Accepted.{Sized, sized, Accepted, accepted, right-size, text-there, text-from, text-inside, body-inside, later, later-not, text-later}
 
 -- ---- answer 20
 pub short : (b : List ℕ) → length b < 77 → true ≡ sizeBad b
@@ -52,51 +52,51 @@ most b e = sized b (no-size b e) .most
 
 -- a count is that of a byte, or of at most as many bytes as there are
 count-by : (r : Row) (b : List ℕ) (q m : ℕ) → m < 256 → countIn r (bits b) q m < 256
-count-by r b q m h = go (r .sort) refl
+count-by r b q m h = go (r .counting) refl
   where
-    go : (s : Sort) → r .sort ≡ s → countIn r (bits b) q m < 256
-    go sort.Fixed e = rw e (omega arith)
-    go sort.Counted e = rw e (at-small b (q + size (r .before)) 8 8 (omega arith))
-    go sort.Raw e = rw e h
-    go sort.Unknown e = rw e (omega arith)
+    go : (s : Counting) → r .counting ≡ s → countIn r (bits b) q m < 256
+    go counting.Fixed e = rw e (omega arith)
+    go counting.Counted e = rw e (at-small b (q + size (r .before)) 8 8 (omega arith))
+    go counting.Raw e = rw e h
+    go counting.Unknown e = rw e (omega arith)
 
 pub count-small : (b : List ℕ) → length b ≤ 250 → countOf b < 256
 unfolding countOf
-count-small b h = count-by (rowOf (formIn b)) b (contentAt b) (contentSize b) (omega arith)
+count-small b h = count-by (rowOf (kindIn b)) b (contentAt b) (contentSize b) (omega arith)
 
 -- ---- a content, and a packet
-count-unmet : (a : ℕ) (s : Sort) (k : ℕ) (l : List ℕ) (p : ℕ) → (a ≡ 26 → ⊥) → fine a (countLine s k) (decode (countLine s k) l p) ≡ true
+count-unmet : (a : ℕ) (s : Counting) (k : ℕ) (l : List ℕ) (p : ℕ) → (a ≡ 26 → ⊥) → fine a (countLine s k) (decode (countLine s k) l p) ≡ true
 unfolding all
 count-unmet a s k l p h = unmet-fine a (countLine s k) (decode (countLine s k) l p) (go s)
   where
     use-ne : eqb 26 a ≡ false
     use-ne = ne-eqb 26 a (λ e. h (sym e))
 
-    go : (s : Sort) → all (λ (t : Line). not (eqb (t .other) a)) (countLine s k) ≡ true
-    go sort.Fixed = refl
-    go sort.Counted = rw use-ne
-    go sort.Raw = refl
-    go sort.Unknown = refl
+    go : (s : Counting) → all (λ (t : Line). not (eqb (t .answer) a)) (countLine s k) ≡ true
+    go counting.Fixed = refl
+    go counting.Counted = rw use-ne
+    go counting.Raw = refl
+    go counting.Unknown = refl
 
 pub content-parts : (a : ℕ) (r : Row) (k : ℕ) (l : List ℕ) (q : ℕ) → (a ≡ 26 → ⊥)
     → fine a (contentLines r k) (decode (contentLines r k) l q)
     ≡ (fine a (r .before) (decode (r .before) l q) && (fine a (times k (r .each)) (decode (times k (r .each)) l (q + partAt r)) && fine a (r .after) (decode (r .after) l (q + partAt r + k * size (r .each)))))
 unfolding contentLines partAt
 content-parts a r k l q h =
-    let L = countLine (r .sort) k in
+    let L = countLine (r .counting) k in
     let M = times k (r .each) in
-    let p1 : q + size (r .before) + size L ≡ q + (size (r .before) + size (countLine (r .sort) 0)) = omega (arith, count-size (r .sort) k, count-size (r .sort) 0) in
-    let p2 : q + (size (r .before) + size (countLine (r .sort) 0)) + size M ≡ q + (size (r .before) + size (countLine (r .sort) 0)) + k * size (r .each) = ap (λ (n : ℕ). q + (size (r .before) + size (countLine (r .sort) 0)) + n) (size-times k (r .each)) in
-    rw (fine-append a (r .before) (L ++ (M ++ r .after)) l q, fine-append a L (M ++ r .after) l (q + size (r .before)), count-unmet a (r .sort) k l (q + size (r .before)) h, p1, fine-append a M (r .after) l (q + (size (r .before) + size (countLine (r .sort) 0))), p2)
+    let p1 : q + size (r .before) + size L ≡ q + (size (r .before) + size (countLine (r .counting) 0)) = omega (arith, count-size (r .counting) k, count-size (r .counting) 0) in
+    let p2 : q + (size (r .before) + size (countLine (r .counting) 0)) + size M ≡ q + (size (r .before) + size (countLine (r .counting) 0)) + k * size (r .each) = ap (λ (n : ℕ). q + (size (r .before) + size (countLine (r .counting) 0)) + n) (size-times k (r .each)) in
+    rw (fine-append a (r .before) (L ++ (M ++ r .after)) l q, fine-append a L (M ++ r .after) l (q + size (r .before)), count-unmet a (r .counting) k l (q + size (r .before)) h, p1, fine-append a M (r .after) l (q + (size (r .before) + size (countLine (r .counting) 0))), p2)
 
-pub packet-parts : (a : ℕ) (b : List ℕ) → (a ≡ 26 → ⊥) → size (contentLines (rowOf (formIn b)) (countOf b)) ≡ 8 * contentSize b
+pub packet-parts : (a : ℕ) (b : List ℕ) → (a ≡ 26 → ⊥) → size (contentLines (rowOf (kindIn b)) (countOf b)) ≡ 8 * contentSize b
     → fine a (tableOf b) (valuesIn b)
     ≡ ((fine a (times (codesIn b) code) (decode (times (codesIn b) code) (bits b) 24) && fine a ending (decode ending (bits b) (contentAt b + 8 * contentSize b)))
-    && fine a (contentLines (rowOf (formIn b)) (countOf b)) (decode (contentLines (rowOf (formIn b)) (countOf b)) (bits b) (contentAt b)))
+    && fine a (contentLines (rowOf (kindIn b)) (countOf b)) (decode (contentLines (rowOf (kindIn b)) (countOf b)) (bits b) (contentAt b)))
 unfolding tableOf packet fine decode size
 packet-parts a b h e =
     let n = codesIn b in
-    let K = contentLines (rowOf (formIn b)) (countOf b) in
+    let K = contentLines (rowOf (kindIn b)) (countOf b) in
     let ne : eqb 26 a ≡ false = ne-eqb 26 a (λ x. h (sym x)) in
     let p1 : 24 + size (times n code) ≡ contentAt b = ap (λ (x : ℕ). 24 + x) (size-times n code ∙ omega arith) in
     let p2 : contentAt b + size K ≡ contentAt b + 8 * contentSize b = ap (λ (x : ℕ). contentAt b + x) e in
@@ -114,11 +114,11 @@ packet-parts a b h e =
     shuffle false y z = refl
 
 -- ---- counts and lengths from what the code computes
-pub count-at : (b : List ℕ) (f : Form) (n m : ℕ) → f ≡ formIn b → n ≡ codesIn b → m ≡ contentSize b → countIn (rowOf f) (bits b) (24 + 96 * n) m ≡ countOf b
+pub count-at : (b : List ℕ) (f : Kind) (n m : ℕ) → f ≡ kindIn b → n ≡ codesIn b → m ≡ contentSize b → countIn (rowOf f) (bits b) (24 + 96 * n) m ≡ countOf b
 unfolding countOf
 count-at b f n m e h i = rw (e, h, i)
 
-pub length-at : (b : List ℕ) (f : Form) (k m x y z : ℕ) → f ≡ formIn b → k ≡ countOf b → m ≡ contentSize b → x ≡ partAt (rowOf f) → y ≡ size (rowOf f .each) → z ≡ size (rowOf f .after)
+pub length-at : (b : List ℕ) (f : Kind) (k m x y z : ℕ) → f ≡ kindIn b → k ≡ countOf b → m ≡ contentSize b → x ≡ partAt (rowOf f) → y ≡ size (rowOf f .each) → z ≡ size (rowOf f .after)
     → not (eqb (x + k * y + z) (8 * m)) ≡ lengthBad b
 unfolding lengthBad
 length-at b f k m x y z e h i p q r =
@@ -137,9 +137,9 @@ pub frame-at : (a : ℕ) (b : List ℕ) (n m : ℕ) → n ≡ codesIn b → m �
     ≡ (fine a (times (codesIn b) code) (decode (times (codesIn b) code) (bits b) 24) && fine a ending (decode ending (bits b) (contentAt b + 8 * contentSize b)))
 frame-at a b n m e f = rw (e, f)
 
-pub content-here : (a : ℕ) (b : List ℕ) (f : Form) (k n : ℕ) → f ≡ formIn b → k ≡ countOf b → n ≡ codesIn b
+pub content-here : (a : ℕ) (b : List ℕ) (f : Kind) (k n : ℕ) → f ≡ kindIn b → k ≡ countOf b → n ≡ codesIn b
     → fine a (contentLines (rowOf f) k) (decode (contentLines (rowOf f) k) (bits b) (24 + 96 * n))
-    ≡ fine a (contentLines (rowOf (formIn b)) (countOf b)) (decode (contentLines (rowOf (formIn b)) (countOf b)) (bits b) (contentAt b))
+    ≡ fine a (contentLines (rowOf (kindIn b)) (countOf b)) (decode (contentLines (rowOf (kindIn b)) (countOf b)) (bits b) (contentAt b))
 content-here a b f k n e h i = rw (e, h, i)
 
 -- ---- the reader's answers, one law for each way out of the code
@@ -149,11 +149,11 @@ module _ (b : List ℕ) where
   says-20 e = sym (stop _ _ e)
 
   module _ (s : sizeBad b ≡ false) where
-    pub says-23 : isUnknown (formIn b) ≡ true → 23 ≡ readAnswer b
+    pub says-23 : isUnknown (kindIn b) ≡ true → 23 ≡ readAnswer b
     unfolding readAnswer
     says-23 e = sym (pass _ _ s ∙ stop _ _ e)
 
-    module _ (u : isUnknown (formIn b) ≡ false) where
+    module _ (u : isUnknown (kindIn b) ≡ false) where
       pub says-26 : lengthBad b ≡ true → 26 ≡ readAnswer b
       unfolding readAnswer
       says-26 e = sym (pass _ _ s ∙ pass _ _ u ∙ stop _ _ e)
@@ -178,23 +178,26 @@ module _ (b : List ℕ) where
 
 -- ---- the parts that are handed back, from what the code computes: n codes, and k bytes
 module _ (b : List ℕ) (n k : ℕ) (codes : n ≡ codesIn b) where
-  pub text-end : textAnswer b ≡ 0 → k ≡ countOf b → 23 + 12 * n + k ≤ length b
-  text-end e f = let t = text-there b e in omega (arith, text-inside b (accepted b (t .0)) (t .1), codes, f)
+  module _ (l : ℕ) (lead : l ≡ partAt (rowOf (kindIn b))) where
+    text-begins : textAnswer b ≡ 0 → 3 + 12 * n + l / 8 ≡ 23 + 12 * codesIn b
+    text-begins e = rw (codes, lead) (text-from b (text-there b e .1) .0)
 
-  pub text-part : textAnswer b ≡ 0 → k ≡ countOf b → take (23 + 12 * n + k - (23 + 12 * n)) (drop (23 + 12 * n) b) ≡ textOf b
-  unfolding textOf
-  text-part e f = let w : 23 + 12 * n + k - (23 + 12 * n) ≡ k = omega arith in rw (w, e, f, codes)
+    pub text-end : textAnswer b ≡ 0 → k ≡ countOf b → 3 + 12 * n + l / 8 + k ≤ length b
+    text-end e f = let t = text-there b e in omega (arith, text-inside b (accepted b (t .0)) (t .1), text-begins e, f)
 
-  module _ (l : ℕ) (lead : l ≡ partAt (rowOf (formIn b))) where
-    pub body-end : readAnswer b ≡ 0 → k ≡ cond (hasEntries (formIn b)) 0 (countOf b) → 3 + 12 * n + l / 8 + k ≤ length b
+    pub text-part : textAnswer b ≡ 0 → k ≡ countOf b → take (3 + 12 * n + l / 8 + k - (3 + 12 * n + l / 8)) (drop (3 + 12 * n + l / 8) b) ≡ textOf b
+    unfolding textOf
+    text-part e f = let w : 3 + 12 * n + l / 8 + k - (3 + 12 * n + l / 8) ≡ k = omega arith in rw (w, text-begins e, e, f)
+
+    pub body-end : readAnswer b ≡ 0 → k ≡ cond (hasEntries (kindIn b)) 0 (countOf b) → 3 + 12 * n + l / 8 + k ≤ length b
     body-end e f = rw (codes, lead, f) (omega (arith, body-inside b (accepted b e)))
 
-    pub body-part : readAnswer b ≡ 0 → k ≡ cond (hasEntries (formIn b)) 0 (countOf b) → take (3 + 12 * n + l / 8 + k - (3 + 12 * n + l / 8)) (drop (3 + 12 * n + l / 8) b) ≡ bodyOf b
+    pub body-part : readAnswer b ≡ 0 → k ≡ cond (hasEntries (kindIn b)) 0 (countOf b) → take (3 + 12 * n + l / 8 + k - (3 + 12 * n + l / 8)) (drop (3 + 12 * n + l / 8) b) ≡ bodyOf b
     unfolding bodyOf
     body-part e f = let w : 3 + 12 * n + l / 8 + k - (3 + 12 * n + l / 8) ≡ k = omega arith in rw (w, e, f, lead, codes)
 
 -- the sizes of a kind's row, and how many at most
-pub record SizesOf (f : Form) (z : Sizes) : Type 0 where
+pub record SizesOf (f : Kind) (z : Sizes) : Type 0 where
   pub lead : z .lead ≡ partAt (rowOf f)
   pub each : z .each ≡ size (rowOf f .each)
   pub rest : z .rest ≡ size (rowOf f .after)
@@ -202,7 +205,7 @@ pub record SizesOf (f : Form) (z : Sizes) : Type 0 where
   pub each-most : z .each ≤ 40
   pub rest-most : z .rest ≤ 96
 
-pub sizes : (f : Form) (z : Sizes) → z ≡ sizesOf f → SizesOf f z
+pub sizes : (f : Kind) (z : Sizes) → z ≡ sizesOf f → SizesOf f z
 sizes f z e =
     let l = ap (λ (x : Sizes). x .lead) e in
     let r = ap (λ (x : Sizes). x .each) e in

@@ -1,7 +1,8 @@
 // The packet reader: what a packet says, its text and its bytes.
 mod lines;
+mod numbers;
 mod parts;
-mod tests;
+mod refusals;
 
 ghost use mathlib.Core.Path.{_≡_};
 ghost use lib.ListN.{length};
@@ -16,18 +17,19 @@ fn fields(b: &[u8]) -> Fields
     requires { ⌜ length (now b) ≤ 250 ⌝ }
     ensures { λ r. ⌜ r ≡ fieldsOf (now (b .entry)) ⌝ }
 {
-    let t = parts::kind(b);
+    let t = parts::type_in(b);
     let n = parts::codes_count(b);
-    let c = parts::content(b);
-    let d = parts::digits(b);
+    let c = parts::told(b);
+    let content = c.content;
+    let digits = c.digits;
     let x = parts::time(b);
     let y = parts::certificate(b);
     let s = parts::signature(b);
     Fields {
-        kind: t,
+        typenumber: t,
         codes: n,
-        content: c,
-        digits: d,
+        content: content,
+        digits: digits,
         time: x,
         certificate: y,
         signature: s,
@@ -42,7 +44,7 @@ fn no_fields() -> Fields
     let y = parts::zeros12();
     let s = parts::zeros64();
     Fields {
-        kind: 0,
+        typenumber: 0,
         codes: 0,
         content: Content::Raw,
         digits: d,
@@ -70,7 +72,7 @@ fn refused(a: u8) -> Opened
 pub fn read(packet: &[u8]) -> Opened
     ensures { λ r. ⌜ r ≡ opened (now (packet .entry)) ⌝ }
 {
-    let a = tests::answer(packet);
+    let a = refusals::answer(packet);
     if a == 0 {
         let f = fields(packet);
         let k = parts::codes(packet);
@@ -90,11 +92,11 @@ pub fn read(packet: &[u8]) -> Opened
 pub fn text_answer(packet: &[u8]) -> u8
     ensures { λ r. ⌜ r ≡ textAnswer (now (packet .entry)) ⌝ }
 {
-    let a = tests::answer(packet);
+    let a = refusals::answer(packet);
     if a != 0 {
         return a;
     }
-    if parts::kind(packet) != 15 {
+    if parts::type_in(packet) != 15 {
         return 27;
     }
     0
@@ -105,7 +107,7 @@ pub fn text(packet: &[u8]) -> &[u8]
     ensures { λ r. ⌜ now r ≡ textOf (now (packet .entry)) ⌝ }
 {
     if text_answer(packet) == 0 {
-        let from = 23 + 12 * parts::codes_count(packet);
+        let from = 3 + 12 * parts::codes_count(packet) + parts::lead(packet) / 8;
         let end = from + parts::text_length(packet);
         &packet[from..end]
     } else {
@@ -117,7 +119,7 @@ pub fn text(packet: &[u8]) -> &[u8]
 pub fn body(packet: &[u8]) -> &[u8]
     ensures { λ r. ⌜ now r ≡ bodyOf (now (packet .entry)) ⌝ }
 {
-    if tests::answer(packet) == 0 {
+    if refusals::answer(packet) == 0 {
         let from = 3 + 12 * parts::codes_count(packet) + parts::lead(packet) / 8;
         let end = from + parts::bytes_count(packet);
         &packet[from..end]

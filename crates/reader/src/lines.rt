@@ -9,7 +9,7 @@ ghost use Rattle.format.specs.Format.{times, size, decode, lineOk, fine, sound,
 use format::Line;
 use packet::Lines;
 
-// A number of at most a byte, of two bytes.
+// A number of at most a byte.
 pub(crate) fn small(b: &[u8], p: usize, w: usize) -> u8
     requires { ⌜ (w ≤ 8) × (p < 65536) ⌝ }
     ensures { λ r. ⌜ r ≡ at (bits (now (b .entry))) p w ⌝ }
@@ -17,29 +17,22 @@ pub(crate) fn small(b: &[u8], p: usize, w: usize) -> u8
     format::field(b, p, w) as u8
 }
 
-pub(crate) fn medium(b: &[u8], p: usize, w: usize) -> u16
-    requires { ⌜ (w ≤ 16) × (p < 65536) ⌝ }
-    ensures { λ r. ⌜ r ≡ at (bits (now (b .entry))) p w ⌝ }
-{
-    format::field(b, p, w) as u16
-}
-
 // The bits of a line.
-fn width(t: Line) -> usize
+pub(crate) fn width(t: Line) -> usize
     requires { ⌜ sound t ≡ true ⌝ }
-    ensures { λ r. ⌜ (r ≡ t .n * t .w) × (r ≤ 2048) ⌝ }
+    ensures { λ r. ⌜ (r ≡ t .count * t .width) × (r ≤ 2048) ⌝ }
 {
-    t.n * t.w
+    t.count * t.width
 }
 
 // A line is no concern of the answer k, or its numbers are as it says.
 fn line_fine(k: u8, t: Line, b: &[u8], p: usize) -> bool
     requires { ⌜ (sound t ≡ true) × (p < 65536) ⌝ }
-    ensures { λ r. ⌜ r ≡ lineOk k t (run (bits (now (b .entry))) p (t .n) (t .w)) ⌝ }
+    ensures { λ r. ⌜ r ≡ lineOk k t (run (bits (now (b .entry))) p (t .count) (t .width)) ⌝ }
 {
-    let o = t.other;
+    let o = t.answer;
     if o == k {
-        format::ranged(b, p, t.n, t.w, t.lo, t.hi)
+        format::ranged(b, p, t.count, t.width, t.lo, t.hi)
     } else {
         true
     }
@@ -75,7 +68,7 @@ fn lines_unmet(k: u8, ts: Lines) -> bool
     let mut j: usize = 0;
     while j < m {
         let t = all[j];
-        let o = t.other;
+        let o = t.answer;
         if o == k {
             return false;
         }

@@ -1,20 +1,23 @@
 // The parts of a packet: heading, codes, content and what follows.
 ghost use mathlib.Core.Path.{_≡_};
-ghost use mathlib.Core.Bool.{cond};
+ghost use mathlib.Core.Bool.{true, cond};
 ghost use mathlib.Core.List.{[], _++_};
 ghost use Prim.Native.Nat.{_+_, _-_, _*_, _<_, _≤_};
-ghost use lib.ListN.{length, drop};
-ghost use lib.Seq.{sets};
-ghost use Rattle.packet.specs.declared.Form.the-variants as form;
+ghost use lib.ListN.{length, take, drop};
+ghost use Rattle.packet.specs.declared.Kind.the-variants as kind;
 ghost use Rattle.laws.specs.Bits.{at, run, bits};
-ghost use Rattle.format.specs.Format.{times, size};
+ghost use Rattle.laws.specs.Scan.{all};
+ghost use Rattle.format.specs.Format.{times, size, sound};
 ghost use Rattle.packet.specs.Table.{rowOf, countIn};
 ghost use Rattle.packet.specs.Content.{contentOf, numbersIn};
-ghost use Rattle.packet.specs.Reading.{kindIn, codesIn, formIn, contentSize, countOf, partAt, numbersAt, contentIn, digitsIn, zeros, padded, codesOf, bodyIn, hasEntries};
+ghost use Rattle.packet.specs.Reading.{typeIn, codesIn, kindIn, contentSize, countOf, partAt, numbersAt, contentIn, digitsIn, zeros, padded, codesOf, bodyIn, hasEntries};
+ghost use Rattle.reader.specs.Taking.{Held, Digits};
 use crate::lines;
+use crate::numbers;
 use packet::Content;
-use packet::Form;
-use packet::Sort;
+use packet::Counting;
+use packet::Kind;
+use packet::Lines;
 
 // a - b, and 0 where b is above a.
 pub(crate) fn minus(a: usize, b: usize) -> usize
@@ -54,8 +57,8 @@ pub(crate) fn zeros272() -> [u8; 272]
 }
 
 // ---- heading
-pub(crate) fn kind(b: &[u8]) -> u8
-    ensures { λ r. ⌜ r ≡ kindIn (now (b .entry)) ⌝ }
+pub(crate) fn type_in(b: &[u8]) -> u8
+    ensures { λ r. ⌜ r ≡ typeIn (now (b .entry)) ⌝ }
 {
     lines::small(b, 0, 5)
 }
@@ -66,26 +69,26 @@ pub(crate) fn codes_count(b: &[u8]) -> usize
     lines::small(b, 16, 8) as usize
 }
 
-pub(crate) fn form(b: &[u8]) -> Form
-    ensures { λ r. ⌜ r ≡ formIn (now (b .entry)) ⌝ }
+pub(crate) fn kind(b: &[u8]) -> Kind
+    ensures { λ r. ⌜ r ≡ kindIn (now (b .entry)) ⌝ }
 {
-    packet::form_of(kind(b))
+    packet::kind_of(type_in(b))
 }
 
 // ---- sizes and count of the content
 // How often the row stands in a content of m bytes from bit q on.
-fn count_in(f: Form, b: &[u8], q: usize, m: usize) -> usize
+fn count_in(f: Kind, b: &[u8], q: usize, m: usize) -> usize
     requires { ⌜ q < 30000 ⌝ }
     ensures { λ r. ⌜ r ≡ countIn (rowOf f) (bits (now (b .entry))) q m ⌝ }
 {
     let s = packet::row_of(f);
     let z = packet::sizes_of(f);
-    let sort = s.sort;
-    match sort {
-        Sort::Fixed => 0,
-        Sort::Counted => lines::small(b, q + z.lead - 8, 8) as usize,
-        Sort::Raw => m,
-        Sort::Unknown => 0,
+    let counting = s.counting;
+    match counting {
+        Counting::Fixed => 0,
+        Counting::Counted => lines::small(b, q + z.lead - 8, 8) as usize,
+        Counting::Raw => m,
+        Counting::Unknown => 0,
     }
 }
 
@@ -100,7 +103,7 @@ pub(crate) fn count(b: &[u8]) -> usize
     ensures { λ r. ⌜ r ≡ countOf (now (b .entry)) ⌝ }
 {
     let q = 24 + 96 * codes_count(b);
-    count_in(form(b), b, q, content_size(b))
+    count_in(kind(b), b, q, content_size(b))
 }
 
 // The bytes of the text: as many as its length says, whatever they are.
@@ -112,17 +115,17 @@ pub(crate) fn text_length(b: &[u8]) -> usize
 }
 
 pub(crate) fn lead(b: &[u8]) -> usize
-    ensures { λ r. ⌜ (r ≡ partAt (rowOf (formIn (now (b .entry))))) × (r ≤ 160) ⌝ }
+    ensures { λ r. ⌜ (r ≡ partAt (rowOf (kindIn (now (b .entry))))) × (r ≤ 160) ⌝ }
 {
-    let z = packet::sizes_of(form(b));
+    let z = packet::sizes_of(kind(b));
     z.lead
 }
 
 // As many bytes as the content has, and none where it has entries.
 pub(crate) fn bytes_count(b: &[u8]) -> usize
-    ensures { λ r. ⌜ r ≡ cond (hasEntries (formIn (now (b .entry)))) 0 (countOf (now (b .entry))) ⌝ }
+    ensures { λ r. ⌜ r ≡ cond (hasEntries (kindIn (now (b .entry)))) 0 (countOf (now (b .entry))) ⌝ }
 {
-    if packet::has_entries(form(b)) {
+    if packet::has_entries(kind(b)) {
         0
     } else {
         count(b)
@@ -130,57 +133,99 @@ pub(crate) fn bytes_count(b: &[u8]) -> usize
 }
 
 // ---- the content
-// The content of a kind from bit q on, with count k.
-pub(crate) fn typed(f: Form, b: &[u8], q: usize, k: usize) -> Content
-    requires { ⌜ q < 30000 ⌝ }
-    ensures { λ r. ⌜ r ≡ contentOf f (numbersAt (rowOf f .before) (now (b .entry)) q) k ⌝ }
+// A content, and how many numbers it has of its own: its digits stand behind them.
+pub(crate) struct Numbered {
+    pub(crate) content: Content,
+    pub(crate) n: usize,
+}
+
+// From numbers to a content: an arm a type.
+fn named(f: Kind, xs: &[u32], k: usize) -> Numbered
+    requires { ⌜ Held (rowOf f .before) (now xs) ⌝ }
+    ensures { λ r. ⌜ (r .content ≡ contentOf f (now (xs .entry)) k) × (r .n ≡ numbersIn f) ⌝ }
 {
     match f {
-        Form::Frequencies => Content::Frequencies { count: k },
-        Form::Address => Content::Address { length: k },
-        Form::Keep => keep(b, q),
-        Form::Clock => clock(b, q),
-        Form::Reset => {
-            let x = lines::small(b, q + 2, 2);
-            Content::Reset { change: x }
+        Kind::Frequencies => Numbered {
+            content: Content::Frequencies { count: k },
+            n: 0,
+        },
+        Kind::Address => Numbered {
+            content: Content::Address { length: k },
+            n: 0,
+        },
+        Kind::Keep => {
+            let on = numbers::small(xs, 0);
+            let period = numbers::medium(xs, 1);
+            Numbered {
+                content: Content::Keep {
+                    on: on,
+                    period: period,
+                },
+                n: 2,
+            }
         }
-        Form::Factory => Content::Factory,
-        Form::Drill => {
-            let x = lines::small(b, q + 4, 4);
-            Content::Drill { action: x }
+        Kind::Clock => {
+            let c = clock(xs);
+            Numbered { content: c, n: 6 }
         }
-        Form::Text => text(b, q, k),
-        Form::Hold => {
-            let x = lines::small(b, q, 8);
-            Content::Hold { serial: x }
+        Kind::Reset => {
+            let change = numbers::small(xs, 0);
+            Numbered {
+                content: Content::Reset { change: change },
+                n: 1,
+            }
         }
-        Form::Raw => Content::Raw,
-        Form::Unknown => Content::Raw,
+        Kind::Factory => Numbered {
+            content: Content::Factory,
+            n: 0,
+        },
+        Kind::Drill => {
+            let action = numbers::small(xs, 0);
+            Numbered {
+                content: Content::Drill { action: action },
+                n: 1,
+            }
+        }
+        Kind::Text => {
+            let kind = numbers::small(xs, 0);
+            let set = numbers::small(xs, 1);
+            Numbered {
+                content: Content::Text {
+                    kind: kind,
+                    set: set,
+                    length: k,
+                },
+                n: 2,
+            }
+        }
+        Kind::Hold => {
+            let serial = numbers::small(xs, 0);
+            Numbered {
+                content: Content::Hold { serial: serial },
+                n: 1,
+            }
+        }
+        Kind::Raw => Numbered {
+            content: Content::Raw,
+            n: 0,
+        },
+        Kind::Unknown => Numbered {
+            content: Content::Raw,
+            n: 0,
+        },
     }
 }
 
-fn keep(b: &[u8], q: usize) -> Content
-    requires { ⌜ q < 30000 ⌝ }
-    ensures { λ r. ⌜ r ≡ contentOf form.Keep (numbersAt (rowOf form.Keep .before) (now (b .entry)) q) 0 ⌝ }
+fn clock(xs: &[u32]) -> Content
+    requires { ⌜ Held (rowOf kind.Clock .before) (now xs) ⌝ }
+    ensures { λ r. ⌜ r ≡ contentOf kind.Clock (now (xs .entry)) 0 ⌝ }
 {
-    let on = lines::small(b, q, 8);
-    let period = lines::medium(b, q + 8, 16);
-    Content::Keep {
-        on: on,
-        period: period,
-    }
-}
-
-fn clock(b: &[u8], q: usize) -> Content
-    requires { ⌜ q < 30000 ⌝ }
-    ensures { λ r. ⌜ r ≡ contentOf form.Clock (numbersAt (rowOf form.Clock .before) (now (b .entry)) q) 0 ⌝ }
-{
-    let year = lines::medium(b, q, 16);
-    let month = lines::small(b, q + 16, 8);
-    let day = lines::small(b, q + 24, 8);
-    let hour = lines::small(b, q + 32, 8);
-    let minute = lines::small(b, q + 40, 8);
-    let second = lines::small(b, q + 48, 8);
+    let year = numbers::medium(xs, 0);
+    let month = numbers::small(xs, 1);
+    let day = numbers::small(xs, 2);
+    let hour = numbers::small(xs, 3);
+    let minute = numbers::small(xs, 4);
+    let second = numbers::small(xs, 5);
     Content::Clock {
         year: year,
         month: month,
@@ -191,17 +236,14 @@ fn clock(b: &[u8], q: usize) -> Content
     }
 }
 
-fn text(b: &[u8], q: usize, k: usize) -> Content
-    requires { ⌜ q < 30000 ⌝ }
-    ensures { λ r. ⌜ r ≡ contentOf form.Text (numbersAt (rowOf form.Text .before) (now (b .entry)) q) k ⌝ }
+// The numbers of lines from bit p on, then zeros.
+fn numbers_at(ts: Lines, b: &[u8], p: usize) -> [u32; 41]
+    requires { ⌜ (ts .m ≤ 6) × (all sound (take (ts .m) (ts .all)) ≡ true) × (p < 37000) ⌝ }
+    ensures { λ r. ⌜ r ≡ padded 41 (numbersAt (take (ts .m) (ts .all)) (now (b .entry)) p) ⌝ }
 {
-    let kind = lines::small(b, q, 4);
-    let set = lines::small(b, q + 4, 4);
-    Content::Text {
-        kind: kind,
-        set: set,
-        length: k,
-    }
+    let mut all = numbers::zeros41();
+    numbers::take_lines(ts, b, p, &mut all);
+    all
 }
 
 pub(crate) fn content(b: &[u8]) -> Content
@@ -209,49 +251,59 @@ pub(crate) fn content(b: &[u8]) -> Content
 {
     let n = codes_count(b);
     let k = count(b);
-    typed(form(b), b, 24 + 96 * n, k)
+    let f = kind(b);
+    let s = packet::row_of(f);
+    let before = s.before;
+    let front = numbers_at(before, b, 24 + 96 * n);
+    let c = named(f, &front, k);
+    let content = c.content;
+    content
 }
 
-// The digits beside the content of a kind from bit q on, with count k.
-fn digits_of(f: Form, b: &[u8], q: usize, k: usize) -> [u8; 35]
-    requires { ⌜ (q < 30000) × (k < 256) ⌝ }
-    ensures { λ r. ⌜ r ≡ padded 35 (drop (numbersIn f) (numbersAt (rowOf f .before) (now (b .entry)) q) ++ numbersAt (rowOf f .after) (now (b .entry)) (q + (partAt (rowOf f) + k * size (rowOf f .each)))) ⌝ }
+// Content and digits.
+pub(crate) struct Opening {
+    pub(crate) content: Content,
+    pub(crate) digits: [u8; 35],
+}
+
+// The numbers of xs from the n-th to the end, then the first m of ys.
+fn digits_of(xs: &[u32], n: usize, end: usize, ys: &[u32], m: usize) -> [u8; 35]
+    requires { ⌜ Digits (now xs) n end (now ys) m ⌝ }
+    ensures { λ r. ⌜ r ≡ padded 35 (take (end - n) (drop n (now (xs .entry))) ++ take m (now (ys .entry))) ⌝ }
 {
     let mut d = zeros35();
-    match f {
-        Form::Frequencies => d,
-        Form::Address => {
-            format::fields(b, q + 12 + 8 * k, 23, 4, &mut d, 0);
-            d
-        }
-        Form::Keep => d,
-        Form::Clock => d,
-        Form::Reset => {
-            format::fields(b, q + 8, 6, 4, &mut d, 0);
-            d
-        }
-        Form::Factory => d,
-        Form::Drill => {
-            format::fields(b, q + 12, 35, 4, &mut d, 0);
-            d
-        }
-        Form::Text => {
-            format::fields(b, q + 12, 35, 4, &mut d, 0);
-            d
-        }
-        Form::Hold => d,
-        Form::Raw => d,
-        Form::Unknown => d,
+    numbers::narrow(xs, n, end - n, &mut d, 0);
+    numbers::narrow(ys, 0, m, &mut d, end - n);
+    d
+}
+
+// The content of a kind from bit q on, with count k, and the digits beside it: behind its numbers, then behind its bytes.
+fn told_at(f: Kind, b: &[u8], q: usize, k: usize) -> Opening
+    requires { ⌜ (q < 25000) × (k < 256) ⌝ }
+    ensures { λ r. ⌜ (r .content ≡ contentOf f (numbersAt (rowOf f .before) (now (b .entry)) q) k) × (r .digits ≡ padded 35 (drop (numbersIn f) (numbersAt (rowOf f .before) (now (b .entry)) q) ++ numbersAt (rowOf f .after) (now (b .entry)) (q + (partAt (rowOf f) + k * size (rowOf f .each))))) ⌝ }
+{
+    let s = packet::row_of(f);
+    let z = packet::sizes_of(f);
+    let before = s.before;
+    let after = s.after;
+    let front = numbers_at(before, b, q);
+    let back = numbers_at(after, b, q + z.lead + k * z.each);
+    let c = named(f, &front, k);
+    let content = c.content;
+    let d = digits_of(&front, c.n, z.first, &back, z.last);
+    Opening {
+        content: content,
+        digits: d,
     }
 }
 
-pub(crate) fn digits(b: &[u8]) -> [u8; 35]
+pub(crate) fn told(b: &[u8]) -> Opening
     requires { ⌜ length (now b) ≤ 250 ⌝ }
-    ensures { λ r. ⌜ r ≡ padded 35 (digitsIn (now (b .entry))) ⌝ }
+    ensures { λ r. ⌜ (r .content ≡ contentIn (now (b .entry))) × (r .digits ≡ padded 35 (digitsIn (now (b .entry)))) ⌝ }
 {
     let n = codes_count(b);
     let k = count(b);
-    digits_of(form(b), b, 24 + 96 * n, k)
+    told_at(kind(b), b, 24 + 96 * n, k)
 }
 
 // ---- codes, entries and what follows the content
@@ -273,40 +325,28 @@ pub(crate) fn codes(b: &[u8]) -> [u8; 322]
     out
 }
 
-// One entry: number, priority and six digits.
-fn entry(b: &[u8], p: usize, out: &mut [u8], i: usize)
-    requires { ⌜ (p < 60000) × (i < 60000) ⌝ }
-    ensures { λ _. ⌜ now (out .exit) ≡ sets (now (out .entry)) i (numbersAt (rowOf form.Frequencies .each) (now (b .entry)) p) ⌝ }
+// The entries of a kind, k of them from bit p on.
+fn entries_in(f: Kind, b: &[u8], p: usize, k: usize) -> [u8; 272]
+    requires { ⌜ (p < 25000) × (k < 256) ⌝ }
+    ensures { λ r. ⌜ r ≡ padded 272 (numbersAt (times k (rowOf f .each)) (now (b .entry)) p) ⌝ }
 {
-    format::fields(b, p, 2, 8, out, i);
-    format::fields(b, p + 16, 6, 4, out, i + 2);
-}
-
-fn entries_in(b: &[u8], p: usize, k: usize) -> [u8; 272]
-    requires { ⌜ (p < 30000) × (k < 256) ⌝ }
-    ensures { λ r. ⌜ r ≡ padded 272 (numbersAt (times k (rowOf form.Frequencies .each)) (now (b .entry)) p) ⌝ }
-{
+    let s = packet::row_of(f);
+    let z = packet::sizes_of(f);
+    let each = s.each;
     let mut out = zeros272();
-    let mut q = p;
-    let mut i: usize = 0;
-    let mut j: usize = 0;
-    while j < k {
-        entry(b, q, &mut out, i);
-        q += 40;
-        i += 8;
-        j += 1;
-    }
+    numbers::take_rows(each, z.each, z.row, k, b, p, &mut out);
     out
 }
 
 pub(crate) fn entries(b: &[u8]) -> [u8; 272]
     requires { ⌜ length (now b) ≤ 250 ⌝ }
-    ensures { λ r. ⌜ r ≡ padded 272 (cond (hasEntries (formIn (now (b .entry)))) (bodyIn (now (b .entry))) []) ⌝ }
+    ensures { λ r. ⌜ r ≡ padded 272 (cond (hasEntries (kindIn (now (b .entry)))) (bodyIn (now (b .entry))) []) ⌝ }
 {
-    if packet::has_entries(form(b)) {
+    let f = kind(b);
+    if packet::has_entries(f) {
         let n = codes_count(b);
         let k = count(b);
-        entries_in(b, 24 + 96 * n + 8, k)
+        entries_in(f, b, 24 + 96 * n + lead(b), k)
     } else {
         zeros272()
     }

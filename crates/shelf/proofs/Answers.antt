@@ -18,8 +18,8 @@ use Rattle.shelf.specs.Record.{levelIn, versionIn, sizeIn, packetIn, typ
 use Rattle.shelf.specs.Summary.{recordsIn, summaryOf, noted}
 use Rattle.shelf.specs.Shelf.{whole, allRight, shelfCases, shelfAnswer, addCases, addAnswer, added, summaryCases, summaryAnswer, summarized, makeCases, makeAnswer, made, lineIn, lineCases, lineAnswer, lined, lineOutput}
 use Rattle.shelf.proofs.Rules.{keeps, take-most}
-use Rattle.lines.specs.Records.{noLine, recordWritten, recordInto}
-use Rattle.lines.proofs.RecordLine.{record-length}
+use Rattle.print.specs.Records.{noLine, recordWritten, recordInto}
+use Rattle.print.proofs.RecordLine.{record-length}
 
 -- ---- a shelf by itself
 module _ (s : List ℕ) where

@@ -17,9 +17,9 @@ use Rattle.laws.proofs.Refusals.{not-due}
 use Rattle.frame.specs.Heading.{reserved}
 use Rattle.size.specs.Size.{packetSize}
 use Rattle.air.specs.OnAir.{sized}
-use Rattle.lines.specs.Lines.{glyph, hexOf}
-use Rattle.lines.specs.Records.{front, recordLine}
-use Rattle.lines.proofs.Laws.{length-hex}
+use Rattle.print.specs.Lines.{glyph, hexOf}
+use Rattle.print.specs.Records.{front, recordLine}
+use Rattle.print.proofs.Laws.{length-hex}
 use Rattle.shelf.specs.Record.{levelIn, versionIn, sizeIn, packetIn, fillIn, closingIn, right, recordOf}
 use Rattle.shelf.specs.Shelf.{makeCases, makeAnswer, made, lineIn}
 use Rattle.shelf.specs.Back.{digitOf, bytesOf, hexIn}

@@ -4,7 +4,7 @@ use mathlib.Core.List.{List, [], _∷_}
 use Prim.Native.Nat.{ℕ, _+_, _-_, _*_}
 use lib.ListN.{length, take, drop}
 use lib.Dec.{ltb}
-use Rattle.lines.specs.Records.{front}
+use Rattle.print.specs.Records.{front}
 use Rattle.shelf.specs.Record.{levelIn, versionIn, packetIn}
 use Rattle.shelf.specs.Shelf.{lineIn}
 

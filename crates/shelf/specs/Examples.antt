@@ -10,8 +10,8 @@ use Rattle.laws.specs.Refusals.{first}
 use Rattle.frame.specs.Heading.{reserved}
 use Rattle.air.specs.OnAir.{sized}
 use Rattle.size.specs.Size.{packetSize}
-use Rattle.lines.specs.Lines.{hexOf, decimalOf}
-use Rattle.lines.specs.Records.{spaced, front, recordLine}
+use Rattle.print.specs.Lines.{hexOf, decimalOf}
+use Rattle.print.specs.Records.{spaced, front, recordLine}
 use Rattle.shelf.specs.Record.{right, recordOf}
 use Rattle.shelf.specs.Summary.{word, wordAt, countOf, lastOf, entryOf, noted}
 use Rattle.shelf.specs.Shelf.{whole, addCases, addAnswer, makeCases, makeAnswer, lineIn}

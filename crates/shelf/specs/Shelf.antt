@@ -8,7 +8,7 @@ use Rattle.laws.specs.Below.{below}
 use Rattle.laws.specs.Refusals.{Case, first}
 use Rattle.frame.specs.Heading.{reserved}
 use Rattle.air.specs.OnAir.{sized}
-use Rattle.lines.specs.Records.{recordLine}
+use Rattle.print.specs.Records.{recordLine}
 use Rattle.shelf.specs.declared.Written.{Written}
 use Rattle.shelf.specs.Record.{levelIn, versionIn, packetIn, typeIn, right, recordOf}
 use Rattle.shelf.specs.Summary.{recordAt, recordsIn, summaryOf, noted}

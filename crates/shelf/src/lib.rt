@@ -223,7 +223,7 @@ pub fn line(given: &[u8], out: &mut [u8]) -> Written
         };
     }
     let size = octets::byte(given, 2) as usize * 256 + octets::byte(given, 3) as usize;
-    let n = lines::record_line(
+    let n = print::record_line(
         octets::byte(given, 0),
         octets::byte(given, 1),
         format::part(given, 4, size),

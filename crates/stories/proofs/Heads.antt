@@ -11,7 +11,7 @@ use lib.Dec.{leb}
 use borrow.Author.Tests.{le-leb, lt-leb, leb-true}
 use Rattle.laws.proofs.Cases.{and-yes, and-no, and-both}
 use Rattle.packet.specs.Table.{rowOf}
-use Rattle.packet.specs.Reading.{codesIn, formIn, countOf, partAt, hasEntries, readAnswer, partBy, bodyOf}
+use Rattle.packet.specs.Reading.{codesIn, kindIn, countOf, partAt, hasEntries, readAnswer, partBy, bodyOf}
 use Rattle.packet.proofs.Accepted.{accepted, body-inside, text-from}
 use Rattle.story.specs.Telling.{headOf, lastFour}
 use Rattle.story.specs.Joining.{headed, digitsOf, isPart}
@@ -139,4 +139,4 @@ unfolding bodyOf
 body-brief b e =
     let p = part-text b e in
     let z = accepted b (p .0) in
-    omega (arith, body-inside b z, text-from b (p .1) .0, z .most, part-few (readAnswer b) (3 + 12 * codesIn b + partAt (rowOf (formIn b)) / 8) (cond (hasEntries (formIn b)) 0 (countOf b)) b)
+    omega (arith, body-inside b z, text-from b (p .1) .0, z .most, part-few (readAnswer b) (3 + 12 * codesIn b + partAt (rowOf (kindIn b)) / 8) (cond (hasEntries (kindIn b)) 0 (countOf b)) b)

@@ -14,7 +14,7 @@ use Rattle.laws.specs.Bits.{Under}
 use Rattle.laws.proofs.Bits.{under-take, under-drop}
 use Rattle.laws.proofs.Elements.{all-head, all-tail, all-at}
 use Rattle.laws.proofs.Refusals.{not-due, pass, none-left}
-use Rattle.packet.specs.Table.{formOf}
+use Rattle.packet.specs.Table.{kindOf}
 use Rattle.packet.specs.Reading.{isUnknown}
 use Rattle.packet.specs.Writing.{sizeFor, bytesFor, countBad, digitBad, notTaken, writtenAnswer, outputBy}
 use Rattle.trips.specs.Given.{Typed}
@@ -43,7 +43,7 @@ pub record Tellable (s : Story) (codes text : List ℕ) (room : ℕ) : Type 0 wh
 pub tellable : (s : Story) (codes text : List ℕ) (room : ℕ) → toldAnswer s codes text room ≡ 0 → Tellable s codes text room
 unfolding toldAnswer
 tellable s codes text room e =
-    let a = not-due (isUnknown (formOf 15)) 23 _ (λ h. omega arith) e in
+    let a = not-due (isUnknown (kindOf 15)) 23 _ (λ h. omega arith) e in
     let b = not-due (countBad (bare s) codes (headOf 1 1)) 26 _ (λ h. omega arith) (a .1) in
     let c = not-due (digitBad (bare s) codes (headOf 1 1)) 25 _ (λ h. omega arith) (b .1) in
     let d = not-due (notTaken (bare s) codes (headOf 1 1)) 27 _ (λ h. omega arith) (c .1) in

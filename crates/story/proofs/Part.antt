@@ -18,9 +18,9 @@ use Rattle.format.specs.Format.{octets, times, size, need, encode, fill, inside
 use Rattle.format.proofs.Tables.{unmet-fine, all-times}
 use Rattle.packet.specs.declared.Fields.{Fields}
 use Rattle.packet.specs.declared.Opened.{Opened}
-use Rattle.packet.specs.declared.Form.the-variants.{Text}
+use Rattle.packet.specs.declared.Kind.the-variants.{Text}
 use Rattle.packet.specs.declared.Content.the-variants as content
-use Rattle.packet.specs.Table.{rowOf, formOf, typeOf, code}
+use Rattle.packet.specs.Table.{rowOf, kindOf, typeOf, code}
 use Rattle.packet.specs.Content.{numbersOf}
 use Rattle.packet.specs.Reading.{isUnknown, partAt, opened, textAnswer}
 use Rattle.packet.specs.Writing.{frontFor, sizeFor, tableFor, valuesFor, bodyFor, bytesFor, countBad, digitBad, notTaken, writtenAnswer}
@@ -76,7 +76,7 @@ number-long ds k n = length-append (take 31 ds) (fourOf (lastFour ds + k)) ∙ o
 pub own-written : (s : Story) (codes : List ℕ) → first (ownCases s codes) ≡ 0 → writtenAnswer (bare s) codes (headOf 1 1) 250 ≡ 0
 unfolding writtenAnswer
 own-written s codes e =
-    let a = not-due (isUnknown (formOf 15)) 23 _ (λ h. omega arith) e in
+    let a = not-due (isUnknown (kindOf 15)) 23 _ (λ h. omega arith) e in
     let b = not-due (countBad (bare s) codes (headOf 1 1)) 26 _ (λ h. omega arith) (a .1) in
     let d = not-due (digitBad (bare s) codes (headOf 1 1)) 25 _ (λ h. omega arith) (b .1) in
     let g = not-due (notTaken (bare s) codes (headOf 1 1)) 27 _ (λ h. omega arith) (d .1) in
@@ -86,7 +86,7 @@ own-written s codes e =
 own-digits : (s : Story) (codes : List ℕ) → first (ownCases s codes) ≡ 0 → inside 0 9 (s .digits) ≡ true
 unfolding digitBad
 own-digits s codes e =
-    let a = not-due (isUnknown (formOf 15)) 23 _ (λ h. omega arith) e in
+    let a = not-due (isUnknown (kindOf 15)) 23 _ (λ h. omega arith) e in
     let b = not-due (countBad (bare s) codes (headOf 1 1)) 26 _ (λ h. omega arith) (a .1) in
     let d = not-due (digitBad (bare s) codes (headOf 1 1)) 25 _ (λ h. omega arith) (b .1) in
     not-false _ (or-both (not (fine 25 (tableFor (bare s) (headOf 1 1)) (valuesFor (bare s) codes (headOf 1 1)))) (not (inside 0 9 (s .digits))) (d .0) .1)
@@ -147,7 +147,7 @@ module _ (s : Story) (codes : List ℕ) (y : Lengths s) (own : first (ownCases s
         codes-long = bare-taken .codes-long;
         lent = ap not (and-yes _ (le-leb t 255 (omega arith)) ∙ eq-eqb (length body) (t * 1) (omega arith));
         c25 = fine-25 f codes body c l (y .certificate-long) (y .signature-long) ∙ and-yes _ (bare-25 .0) ∙ and-yes _ (text-lines 25 (s .kind) 0 t ds body (text-digits (s .kind) 0 t ds d) (octets-fine 25 t (fill (times t (octets 1 ∷ [])) (bodyFor (f .content) body)) refl)) ∙ bare-25 .1;
-        form = bare-taken .form;
+        kind = bare-taken .kind;
         body-kept = refl;
         digits-kept = ends ds l;
         c27 = fine-27 f codes body c l (y .certificate-long) (y .signature-long) ∙ text-lines 27 (s .kind) 0 t ds body (text-range (s .kind) 0 t 4 ds (s .digits) ∙ bare-27) (octets-fine 27 t (fill (times t (octets 1 ∷ [])) (bodyFor (f .content) body)) refl);
@@ -211,7 +211,7 @@ module _ (s : Story) (codes : List ℕ) (y : Lengths s) (own : first (ownCases s
           let o : opened b ≡ asGiven (partFields s k p) codes (partBody n k p) = opened-is (partFields s k p) codes (partBody n k p) part-taken part-fitted in
           let z = ap (λ (x : Opened). x .answer) o in
           let a = accepted b (sym (read-answer b) ∙ z) in
-          let t = text-of-packet b z .0 (ap (λ (x : Opened). x .fields .kind) o) .0 in
+          let t = text-of-packet b z .0 (ap (λ (x : Opened). x .fields .typenumber) o) .0 in
           record {
             part = and-yes _ (eq-eqb (textAnswer b) 0 t) ∙ ap (λ (x : Opened). eqb (getD (numbersOf (x .fields .content)) 1 0) 0) o;
             body = body-is (partFields s k p) codes (partBody n k p) part-taken part-fitted;
@@ -231,7 +231,7 @@ module _ (s : Story) (codes : List ℕ) (y : Lengths s) (own : first (ownCases s
         pass 23 _ (a .known)
         ∙ pass 26 _ (or-no _ (ap not (and-yes _ (le-leb (s .codes) 255 (a .few)) ∙ eq-eqb (length codes) (s .codes * 23) (a .codes-long))) ∙ a .lent)
         ∙ pass 25 _ (or-no _ (ap not (a .c25)) ∙ ap not (number-inside (s .digits) k (own-digits s codes own)))
-        ∙ pass 27 _ (or-no _ (ap not (eq-eqb _ _ (ap typeOf (a .form)))) ∙ or-no _ (ap not (a .digits-kept)) ∙ or-no _ (ap not (a .c27)))
+        ∙ pass 27 _ (or-no _ (ap not (eq-eqb _ _ (ap typeOf (a .kind)))) ∙ or-no _ (ap not (a .digits-kept)) ∙ or-no _ (ap not (a .c27)))
         ∙ pass 20 _ (le-ltb 250 (sizeFor f b) (a .small))
         ∙ pass 10 _ (le-ltb room (sizeFor f b) (omega arith))
         ∙ none-left

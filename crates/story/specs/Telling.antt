@@ -38,7 +38,7 @@ numberAfter ds k = take 31 ds ++ fourOf (lastFour ds + k)
 abbrev pub fieldsWith : Story → List ℕ → ℕ → Fields
 fieldsWith s ds t =
     record {
-      kind = 15;
+      typenumber = 15;
       codes = s .codes;
       content = content.Text (s .kind) 0 t;
       digits = ds;

@@ -15,7 +15,7 @@ use Rattle.laws.proofs.Cases.{if-yes, if-no}
 use Rattle.laws.proofs.Elements.{by-test, first-append, all-head, all-tail}
 use Rattle.laws.proofs.Refusals.{done, stop, pass, none-left, not-due}
 use Rattle.laws.proofs.Writes.{from-front}
-use Rattle.packet.specs.Table.{formOf}
+use Rattle.packet.specs.Table.{kindOf}
 use Rattle.packet.specs.Reading.{isUnknown}
 use Rattle.packet.specs.Writing.{sizeFor, countBad, digitBad, notTaken, writtenAnswer, outputBy}
 use Rattle.story.specs.declared.Story.{Story}
@@ -41,7 +41,7 @@ module _ (s : Story) (codes : List ℕ) where
   pub own-zero : w ≡ 0 → first (ownCases s codes) ≡ 0
   unfolding writtenAnswer
   own-zero e =
-      let a = not-due (isUnknown (formOf 15)) 23 _ (λ h. omega arith) e in
+      let a = not-due (isUnknown (kindOf 15)) 23 _ (λ h. omega arith) e in
       let b = not-due (countBad (bare s) codes (headOf 1 1)) 26 _ (λ h. omega arith) (a .1) in
       let d = not-due (digitBad (bare s) codes (headOf 1 1)) 25 _ (λ h. omega arith) (b .1) in
       let g = not-due (notTaken (bare s) codes (headOf 1 1)) 27 _ (λ h. omega arith) (d .1) in

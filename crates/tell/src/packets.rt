@@ -27,7 +27,7 @@ fn fields_with(story: Story, digits: [u8; 35], t: usize) -> Fields
     let certificate = story.certificate;
     let signature = story.signature;
     Fields {
-        kind: 15,
+        typenumber: 15,
         codes: story.codes,
         content: Content::Text {
             kind: story.kind,

@@ -15,19 +15,19 @@ use Rattle.laws.proofs.Cases.{and-yes, and-no}
 use Rattle.format.specs.declared.Line.{Line}
 use Rattle.format.specs.Format.{just, size, decode, need, inside, lineOk, fine, unmet}
 use Rattle.format.proofs.Tables.{settled}
-use Rattle.packet.specs.declared.Form.{Form}
-use Rattle.packet.specs.declared.Form.the-variants.{Frequencies}
-use Rattle.packet.specs.declared.Sort.{Sort}
-use Rattle.packet.specs.declared.Sort.the-variants as sort
+use Rattle.packet.specs.declared.Kind.{Kind}
+use Rattle.packet.specs.declared.Kind.the-variants.{Frequencies}
+use Rattle.packet.specs.declared.Counting.{Counting}
+use Rattle.packet.specs.declared.Counting.the-variants as counting
 use Rattle.packet.specs.Table.{Row, rowOf, countLine, countIn, contentLines, code, ending, packet}
 use Rattle.packet.specs.Content.{contentOf, countFor}
-use Rattle.packet.specs.Reading.{kindIn, codesIn, formIn, contentAt, contentSize, countOf, partAt, tableOf, valuesIn, digitsIn, padded, fieldsOf}
+use Rattle.packet.specs.Reading.{typeIn, codesIn, kindIn, contentAt, contentSize, countOf, partAt, tableOf, valuesIn, digitsIn, padded, fieldsOf}
 use Rattle.packet.specs.Writing.{lentBad, bodyLost}
 use Rattle.packet.proofs.Column.{content-size}
 use Rattle.trips.proofs.Parts as parts
 use Rattle.trips.proofs.Contents as contents
 
-pub of-count : (b : List ℕ) → countOf b ≡ countIn (rowOf (formIn b)) (bits b) (contentAt b) (contentSize b)
+pub of-count : (b : List ℕ) → countOf b ≡ countIn (rowOf (kindIn b)) (bits b) (contentAt b) (contentSize b)
 unfolding countOf
 of-count b = refl
 
@@ -47,25 +47,25 @@ pub heading : (t p n : ℕ) (l : List ℕ) (R : List Line) → at l 0 5 ≡ t �
 unfolding fine decode run
 heading t p n l R a b c e = and-yes _ (same-26 5 t (at l 0 5) a) ∙ and-yes _ (same-26 11 p (at l 5 11) b) ∙ and-yes _ (same-26 8 n (at l 16 8) c) ∙ e
 
-pub count-26 : (r : Row) (l : List ℕ) (q m k : ℕ) → k ≡ countIn r l q m → fine 26 (countLine (r .sort) k) (decode (countLine (r .sort) k) l (q + size (r .before))) ≡ true
+pub count-26 : (r : Row) (l : List ℕ) (q m k : ℕ) → k ≡ countIn r l q m → fine 26 (countLine (r .counting) k) (decode (countLine (r .counting) k) l (q + size (r .before))) ≡ true
 unfolding fine decode run
-count-26 r l q m k h = go (r .sort) refl
+count-26 r l q m k h = go (r .counting) refl
   where
-    go : (s : Sort) → r .sort ≡ s → fine 26 (countLine (r .sort) k) (decode (countLine (r .sort) k) l (q + size (r .before))) ≡ true
-    go sort.Fixed e = rw e
-    go sort.Counted e = rw e (and-yes true (same-26 8 k (at l (q + size (r .before)) 8) (sym (rw e at h))))
-    go sort.Raw e = rw e
-    go sort.Unknown e = rw e
+    go : (s : Counting) → r .counting ≡ s → fine 26 (countLine (r .counting) k) (decode (countLine (r .counting) k) l (q + size (r .before))) ≡ true
+    go counting.Fixed e = rw e
+    go counting.Counted e = rw e (and-yes true (same-26 8 k (at l (q + size (r .before)) 8) (sym (rw e at h))))
+    go counting.Raw e = rw e
+    go counting.Unknown e = rw e
 
 pub settled-table : (b : List ℕ) → all settled (tableOf b) ≡ true
 unfolding tableOf all
 settled-table b =
-    let g = contents.fair (formIn b) in
-    let r = rowOf (formIn b) in
+    let g = contents.fair (kindIn b) in
+    let r = rowOf (kindIn b) in
     let j : (w x : ℕ) → settled (just w x) ≡ true = λ w x. ap (λ (t : Bool). t && true) (eq-eqb x x refl) in
-    parts.all-packet settled r (kindIn b) (length b) (codesIn b) (countOf b) (j 5 (kindIn b)) (j 11 (length b - 2)) (j 8 (codesIn b)) (parts.all-count settled (r .sort) (countOf b) (j 8 (countOf b))) refl refl (g .settled1) (g .settled2) (g .settled3)
+    parts.all-packet settled r (typeIn b) (length b) (codesIn b) (countOf b) (j 5 (typeIn b)) (j 11 (length b - 2)) (j 8 (codesIn b)) (parts.all-count settled (r .counting) (countOf b) (j 8 (countOf b))) refl refl (g .settled1) (g .settled2) (g .settled3)
 
-pub table-25 : (b : List ℕ) → fine 25 (tableOf b) (valuesIn b) ≡ true → fine 25 (packet (rowOf (formIn b)) (kindIn b) (length b) (codesIn b) (countOf b)) (decode (packet (rowOf (formIn b)) (kindIn b) (length b) (codesIn b) (countOf b)) (bits b) 0) ≡ true
+pub table-25 : (b : List ℕ) → fine 25 (tableOf b) (valuesIn b) ≡ true → fine 25 (packet (rowOf (kindIn b)) (typeIn b) (length b) (codesIn b) (countOf b)) (decode (packet (rowOf (kindIn b)) (typeIn b) (length b) (codesIn b) (countOf b)) (bits b) 0) ≡ true
 unfolding tableOf
 table-25 b e = e
 
@@ -83,36 +83,36 @@ only-none t n h = go (eqb t 1) refl
     go true e = ap₂ (λ (x y : Bool). x && not y) e (eq-eqb n 0 (h (eqb-true t 1 e)))
     go false e = and-no _ e
 
-pub lent-right : (r : Row) (b : List ℕ) (k : ℕ) (body : List ℕ) (q m : ℕ) → k ≡ countIn r (bits b) q m → length body ≡ k * need (r .each) → lentBad (r .sort) k (need (r .each)) (length body) ≡ false
-lent-right r b k body q m h n = go (r .sort) refl
+pub lent-right : (r : Row) (b : List ℕ) (k : ℕ) (body : List ℕ) (q m : ℕ) → k ≡ countIn r (bits b) q m → length body ≡ k * need (r .each) → lentBad (r .counting) k (need (r .each)) (length body) ≡ false
+lent-right r b k body q m h n = go (r .counting) refl
   where
-    go : (s : Sort) → r .sort ≡ s → lentBad (r .sort) k (need (r .each)) (length body) ≡ false
-    go sort.Fixed e = rw e
-    go sort.Counted e =
+    go : (s : Counting) → r .counting ≡ s → lentBad (r .counting) k (need (r .each)) (length body) ≡ false
+    go counting.Fixed e = rw e
+    go counting.Counted e =
         let c : k ≡ at (bits b) (q + size (r .before)) 8 = rw e at h in
         rw e (ap not (ap₂ _&&_ (le-leb k 255 (omega (arith, c, at-small b (q + size (r .before)) 8 8 (omega arith)))) (eq-eqb (length body) (k * need (r .each)) n)))
-    go sort.Raw e = rw e
-    go sort.Unknown e = rw e
+    go counting.Raw e = rw e
+    go counting.Unknown e = rw e
 
-pub body-right : (r : Row) (b : List ℕ) (k : ℕ) (body : List ℕ) (q m : ℕ) → k ≡ countIn r (bits b) q m → length body ≡ k * need (r .each) → bodyLost (r .sort) (length body) ≡ false
-body-right r b k body q m h n = go (r .sort) refl
+pub body-right : (r : Row) (b : List ℕ) (k : ℕ) (body : List ℕ) (q m : ℕ) → k ≡ countIn r (bits b) q m → length body ≡ k * need (r .each) → bodyLost (r .counting) (length body) ≡ false
+body-right r b k body q m h n = go (r .counting) refl
   where
-    go : (s : Sort) → r .sort ≡ s → bodyLost (r .sort) (length body) ≡ false
-    go sort.Fixed e =
+    go : (s : Counting) → r .counting ≡ s → bodyLost (r .counting) (length body) ≡ false
+    go counting.Fixed e =
         let c : k ≡ 0 = rw e at h in
         rw e (ap not (eq-eqb (length body) 0 (n ∙ ap (λ (x : ℕ). x * need (r .each)) c ∙ zero-mul (need (r .each)))))
-    go sort.Counted e = rw e
-    go sort.Raw e = rw e
-    go sort.Unknown e = rw e
+    go counting.Counted e = rw e
+    go counting.Raw e = rw e
+    go counting.Unknown e = rw e
 
-pub entries-few : (f : Form) (k : ℕ) (body : List ℕ) (m : ℕ) → f ≡ Frequencies → size (contentLines (rowOf f) k) ≡ 8 * m → length body ≡ k * need (rowOf f .each) → m ≤ 173 → length body + 0 ≤ 272
+pub entries-few : (f : Kind) (k : ℕ) (body : List ℕ) (m : ℕ) → f ≡ Frequencies → size (contentLines (rowOf f) k) ≡ 8 * m → length body ≡ k * need (rowOf f .each) → m ≤ 173 → length body + 0 ≤ 272
 unfolding size need partAt
 entries-few f k body m e h n l =
     let s : size (contentLines (rowOf Frequencies) k) ≡ 8 + k * 40 + 0 = content-size (rowOf Frequencies) k in
-    let s1 : size (contentLines (rowOf f) k) ≡ 8 + k * 40 + 0 = ap (λ (g : Form). size (contentLines (rowOf g) k)) e ∙ s in
-    let n1 : length body ≡ k * 8 = n ∙ ap (λ (g : Form). k * need (rowOf g .each)) e in
+    let s1 : size (contentLines (rowOf f) k) ≡ 8 + k * 40 + 0 = ap (λ (g : Kind). size (contentLines (rowOf g) k)) e ∙ s in
+    let n1 : length body ≡ k * 8 = n ∙ ap (λ (g : Kind). k * need (rowOf g .each)) e in
     omega arith
 
-pub entries-count : (f : Form) (xs : List ℕ) (k : ℕ) (body : List ℕ) → f ≡ Frequencies → length body ≡ k * need (rowOf f .each) → countFor (contentOf f xs k) [] * 8 ≡ length body
+pub entries-count : (f : Kind) (xs : List ℕ) (k : ℕ) (body : List ℕ) → f ≡ Frequencies → length body ≡ k * need (rowOf f .each) → countFor (contentOf f xs k) [] * 8 ≡ length body
 unfolding need
-entries-count f xs k body e n = ap (λ (g : Form). countFor (contentOf g xs k) [] * 8) e ∙ sym (n ∙ ap (λ (g : Form). k * need (rowOf g .each)) e)
+entries-count f xs k body e n = ap (λ (g : Kind). countFor (contentOf g xs k) [] * 8) e ∙ sym (n ∙ ap (λ (g : Kind). k * need (rowOf g .each)) e)

@@ -15,13 +15,13 @@ use native.Mathlib.Nat.{le-antisymm}
 use Rattle.format.specs.Format.{just, size, decode, inside, fine, unmet}
 use Rattle.format.specs.declared.Line.{Line}
 use Rattle.format.proofs.Tables.{given, settled}
-use Rattle.packet.specs.declared.Form.{Form}
-use Rattle.packet.specs.declared.Form.the-variants.{Text, Raw}
+use Rattle.packet.specs.declared.Kind.{Kind}
+use Rattle.packet.specs.declared.Kind.the-variants.{Text, Raw}
 use Rattle.packet.specs.declared.Content.{Content}
 use Rattle.packet.specs.declared.Content.the-variants as content
 use Rattle.packet.specs.Table.{rowOf, countLine, countIn, contentLines}
 use Rattle.packet.proofs.Column.{content-size}
-use Rattle.packet.specs.Content.{formFor, countFor}
+use Rattle.packet.specs.Content.{kindFor, countFor}
 use Rattle.packet.specs.Reading.{partAt}
 use Rattle.packet.specs.Writing.{rowFor, digitsBefore, digitsAfter}
 use Rattle.packet.proofs.Each.{kinds, each-kind}
@@ -31,10 +31,10 @@ use Rattle.trips.proofs.Fitting.{tight}
 
 -- a line that answer 0 is about has bytes
 abbrev pub byteLine : Line → Bool
-byteLine t = not (eqb (t .other) 0) || (eqb (t .lo) 0 && (eqb (t .hi) 255 && t .free))
+byteLine t = not (eqb (t .answer) 0) || (eqb (t .lo) 0 && (eqb (t .hi) 255 && t .given))
 
 -- the lines of a row: each has a width for its numbers, those of 24 and 26 are the table's, a line that is not free is settled, and no other is due 26
-pub record Fair (f : Form) : Type 0 where
+pub record Fair (f : Kind) : Type 0 where
   pub tight1 : all tight (rowOf f .before) ≡ true
   pub tight2 : all tight (rowOf f .each) ≡ true
   pub tight3 : all tight (rowOf f .after) ≡ true
@@ -57,7 +57,7 @@ pub record Fair (f : Form) : Type 0 where
   pub after : all (unmet 0) (rowOf f .after) ≡ true
 
 -- the tests, one by one
-abbrev tests : Form → List Bool
+abbrev tests : Kind → List Bool
 tests f =
     all tight (rowOf f .before) ∷ all tight (rowOf f .each) ∷ all tight (rowOf f .after)
     ∷ all (given 24) (rowOf f .before) ∷ all (given 24) (rowOf f .each) ∷ all (given 24) (rowOf f .after)
@@ -68,14 +68,14 @@ tests f =
     ∷ all byteLine (rowOf f .each) ∷ all (unmet 0) (rowOf f .after)
     ∷ []
 
-abbrev passed : Form → Bool
+abbrev passed : Kind → Bool
 passed f = all (λ (b : Bool). b) (tests f)
 
 all-pass : all passed kinds ≡ true
 unfolding all size partAt
 all-pass = refl
 
-pub fair : (f : Form) → Fair f
+pub fair : (f : Kind) → Fair f
 fair f =
     record {
       tight1 = at 0 (omega arith);
@@ -104,7 +104,7 @@ fair f =
     at i l = all-at (λ (b : Bool). b) (tests f) i true (each-kind passed all-pass f) l
 
 pub few-digits : (c : Content) → digitsBefore c + digitsAfter c ≤ 35
-few-digits c = omega (arith, numbers-long c, good (formFor c) .last)
+few-digits c = omega (arith, numbers-long c, good (kindFor c) .last)
 
 -- a count line without a fault of 26 holds its count
 just-is : (k : ℕ) (l : List ℕ) (p : ℕ) → fine 26 (just 8 k ∷ []) (decode (just 8 k ∷ []) l p) ≡ true → at l p 8 ≡ k
@@ -121,7 +121,7 @@ raw-size k m e = omega (arith, content-size (rowOf Raw) k, e)
 
 -- the count that is read is the content's
 pub count-back : (c : Content) (body l : List ℕ) (q m : ℕ)
-    → fine 26 (countLine (rowFor c .sort) (countFor c body)) (decode (countLine (rowFor c .sort) (countFor c body)) l (q + size (rowFor c .before))) ≡ true
+    → fine 26 (countLine (rowFor c .counting) (countFor c body)) (decode (countLine (rowFor c .counting) (countFor c body)) l (q + size (rowFor c .before))) ≡ true
     → size (contentLines (rowFor c) (countFor c body)) ≡ 8 * m
     → countIn (rowFor c) l q m ≡ countFor c body
 count-back content.Raw body l q m h e = raw-size (length body) m e

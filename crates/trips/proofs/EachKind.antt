@@ -15,29 +15,29 @@ use Rattle.packet.specs.Writing.{digitsBefore, digitsAfter}
 use Rattle.packet.proofs.Good.{good}
 use Rattle.packet.proofs.Contents.{numbers-long}
 use Rattle.format.specs.Format.{decode, need, flat, inside, fine}
-use Rattle.packet.specs.declared.Form.{Form}
-use Rattle.packet.specs.declared.Form.the-variants.{Frequencies, Address, Keep, Clock, Reset, Factory, Drill, Text, Hold, Raw, Unknown}
+use Rattle.packet.specs.declared.Kind.{Kind}
+use Rattle.packet.specs.declared.Kind.the-variants.{Frequencies, Address, Keep, Clock, Reset, Factory, Drill, Text, Hold, Raw, Unknown}
 use Rattle.packet.specs.Table.{rowOf, countIn}
-use Rattle.packet.specs.Content.{contentOf, formFor, numbersOf, numbersIn, countFor}
+use Rattle.packet.specs.Content.{contentOf, kindFor, numbersOf, numbersIn, countFor}
 use Rattle.packet.specs.Reading.{isUnknown}
 
 -- ---- a clause a kind
 -- a content of a known kind is of that kind
-pub form-of : (f : Form) (xs : List ℕ) (k : ℕ) → isUnknown f ≡ false → formFor (contentOf f xs k) ≡ f
-form-of Frequencies xs k h = refl
-form-of Address xs k h = refl
-form-of Keep xs k h = refl
-form-of Clock xs k h = refl
-form-of Reset xs k h = refl
-form-of Factory xs k h = refl
-form-of Drill xs k h = refl
-form-of Text xs k h = refl
-form-of Hold xs k h = refl
-form-of Raw xs k h = refl
-form-of Unknown xs k h = absurd (true≢false h)
+pub kind-of : (f : Kind) (xs : List ℕ) (k : ℕ) → isUnknown f ≡ false → kindFor (contentOf f xs k) ≡ f
+kind-of Frequencies xs k h = refl
+kind-of Address xs k h = refl
+kind-of Keep xs k h = refl
+kind-of Clock xs k h = refl
+kind-of Reset xs k h = refl
+kind-of Factory xs k h = refl
+kind-of Drill xs k h = refl
+kind-of Text xs k h = refl
+kind-of Hold xs k h = refl
+kind-of Raw xs k h = refl
+kind-of Unknown xs k h = absurd (true≢false h)
 
 -- its numbers are the first of what was read
-pub numbers-back : (f : Form) (xs : List ℕ) (k : ℕ) → numbersIn f ≤ length xs → numbersOf (contentOf f xs k) ≡ take (numbersIn f) xs
+pub numbers-back : (f : Kind) (xs : List ℕ) (k : ℕ) → numbersIn f ≤ length xs → numbersOf (contentOf f xs k) ≡ take (numbersIn f) xs
 numbers-back Frequencies xs k h = refl
 numbers-back Address xs k h = refl
 numbers-back Keep [] k h = absurd (omega arith)
@@ -64,7 +64,7 @@ numbers-back Raw xs k h = refl
 numbers-back Unknown xs k h = refl
 
 -- its count is the one that was read, and that of what is lent
-pub count-for : (f : Form) (xs body l : List ℕ) (q m k : ℕ) → isUnknown f ≡ false → k ≡ countIn (rowOf f) l q m → length body ≡ k * need (rowOf f .each) → countFor (contentOf f xs k) body ≡ k
+pub count-for : (f : Kind) (xs body l : List ℕ) (q m k : ℕ) → isUnknown f ≡ false → k ≡ countIn (rowOf f) l q m → length body ≡ k * need (rowOf f .each) → countFor (contentOf f xs k) body ≡ k
 unfolding need
 count-for Frequencies xs body l q m k h e n = refl
 count-for Address xs body l q m k h e n = refl
@@ -79,7 +79,7 @@ count-for Raw xs body l q m k h e n = omega (arith, n)
 count-for Unknown xs body l q m k h e n = absurd (true≢false h)
 
 -- digits without a fault of 25 are at most 9
-pub front-digits : (f : Form) (l : List ℕ) (q : ℕ) → fine 25 (rowOf f .before) (decode (rowOf f .before) l q) ≡ true → inside 0 9 (drop (numbersIn f) (flat (rowOf f .before) (decode (rowOf f .before) l q))) ≡ true
+pub front-digits : (f : Kind) (l : List ℕ) (q : ℕ) → fine 25 (rowOf f .before) (decode (rowOf f .before) l q) ≡ true → inside 0 9 (drop (numbersIn f) (flat (rowOf f .before) (decode (rowOf f .before) l q))) ≡ true
 unfolding fine decode flat run inside
 front-digits Frequencies l q h = refl
 front-digits Address l q h = refl
@@ -93,7 +93,7 @@ front-digits Hold l q h = refl
 front-digits Raw l q h = refl
 front-digits Unknown l q h = refl
 
-pub back-digits : (f : Form) (l : List ℕ) (q : ℕ) → fine 25 (rowOf f .after) (decode (rowOf f .after) l q) ≡ true → inside 0 9 (flat (rowOf f .after) (decode (rowOf f .after) l q)) ≡ true
+pub back-digits : (f : Kind) (l : List ℕ) (q : ℕ) → fine 25 (rowOf f .after) (decode (rowOf f .after) l q) ≡ true → inside 0 9 (flat (rowOf f .after) (decode (rowOf f .after) l q)) ≡ true
 unfolding fine decode flat run inside
 back-digits Frequencies l q h = refl
 back-digits Address l q h = and-left _ true h
@@ -108,7 +108,7 @@ back-digits Raw l q h = refl
 back-digits Unknown l q h = refl
 
 -- no kind has digits both before its bytes and after them, and none more than 35
-pub places : (f : Form) → ((need (rowOf f .before) ≡ numbersIn f) ⊎ (need (rowOf f .after) ≡ 0)) × (need (rowOf f .before) - numbersIn f + need (rowOf f .after) ≤ 35)
+pub places : (f : Kind) → ((need (rowOf f .before) ≡ numbersIn f) ⊎ (need (rowOf f .after) ≡ 0)) × (need (rowOf f .before) - numbersIn f + need (rowOf f .after) ≤ 35)
 places f = (by (eqb (need (rowOf f .before)) (numbersIn f)) refl, good f .last)
   where
     by : (b : Bool) → eqb (need (rowOf f .before)) (numbersIn f) ≡ b → (need (rowOf f .before) ≡ numbersIn f) ⊎ (need (rowOf f .after) ≡ 0)
@@ -116,8 +116,8 @@ places f = (by (eqb (need (rowOf f .before)) (numbersIn f)) refl, good f .last)
     by false e = inr (eqb-true _ _ (sym (or-no _ e) ∙ good f .one-place))
 
 pub one-place : (c : Content) → (digitsBefore c ≡ 0) ⊎ (digitsAfter c ≡ 0)
-one-place c = by (places (formFor c) .0)
+one-place c = by (places (kindFor c) .0)
   where
-    by : (need (rowOf (formFor c) .before) ≡ numbersIn (formFor c)) ⊎ (need (rowOf (formFor c) .after) ≡ 0) → (digitsBefore c ≡ 0) ⊎ (digitsAfter c ≡ 0)
+    by : (need (rowOf (kindFor c) .before) ≡ numbersIn (kindFor c)) ⊎ (need (rowOf (kindFor c) .after) ≡ 0) → (digitsBefore c ≡ 0) ⊎ (digitsAfter c ≡ 0)
     by (inl e) = inl (omega (arith, e, numbers-long c))
     by (inr e) = inr e

@@ -39,7 +39,7 @@ inside-under lo hi k (x ∷ v) h e (suc i) =
 
 -- a line's greatest number is one of its bits, and its answer is one of those that are asked
 abbrev pub tight : Line → Bool
-tight t = ltb (t .hi) (2 ^ t .w) && (eqb (t .other) 0 || (eqb (t .other) 24 || (eqb (t .other) 25 || (eqb (t .other) 26 || eqb (t .other) 27))))
+tight t = ltb (t .hi) (2 ^ t .width) && (eqb (t .answer) 0 || (eqb (t .answer) 24 || (eqb (t .answer) 25 || (eqb (t .answer) 26 || eqb (t .answer) 27))))
 
 -- no line is due any answer, and those that are due none have numbers of their bits
 pub record Clean (ts : List Line) (vs : List (List ℕ)) : Type 0 where
@@ -50,15 +50,15 @@ pub record Clean (ts : List Line) (vs : List (List ℕ)) : Type 0 where
   pub c27 : fine 27 ts vs ≡ true
 
 line-inside : (t : Line) (v : List ℕ) → tight t ≡ true → lineOk 0 t v ≡ true → lineOk 24 t v ≡ true → lineOk 25 t v ≡ true → lineOk 26 t v ≡ true → lineOk 27 t v ≡ true
-    → Under (2 ^ t .w) v
+    → Under (2 ^ t .width) v
 line-inside t v a z p q r s =
-    let b = and-both (ltb (t .hi) (2 ^ t .w)) _ a in
-    inside-under (t .lo) (t .hi) (2 ^ t .w) v (ltb-true (t .hi) (2 ^ t .w) (b .0)) (go (eqb (t .other) 0) (eqb (t .other) 24) (eqb (t .other) 25) (eqb (t .other) 26) refl refl refl refl (b .1))
+    let b = and-both (ltb (t .hi) (2 ^ t .width)) _ a in
+    inside-under (t .lo) (t .hi) (2 ^ t .width) v (ltb-true (t .hi) (2 ^ t .width) (b .0)) (go (eqb (t .answer) 0) (eqb (t .answer) 24) (eqb (t .answer) 25) (eqb (t .answer) 26) refl refl refl refl (b .1))
   where
-    here : (k : ℕ) → eqb (t .other) k ≡ true → lineOk k t v ≡ true → inside (t .lo) (t .hi) v ≡ true
+    here : (k : ℕ) → eqb (t .answer) k ≡ true → lineOk k t v ≡ true → inside (t .lo) (t .hi) v ≡ true
     here k e f = sym (if-yes (inside (t .lo) (t .hi) v) true e) ∙ f
 
-    go : (w x y u : Bool) → eqb (t .other) 0 ≡ w → eqb (t .other) 24 ≡ x → eqb (t .other) 25 ≡ y → eqb (t .other) 26 ≡ u → (w || (x || (y || (u || eqb (t .other) 27)))) ≡ true → inside (t .lo) (t .hi) v ≡ true
+    go : (w x y u : Bool) → eqb (t .answer) 0 ≡ w → eqb (t .answer) 24 ≡ x → eqb (t .answer) 25 ≡ y → eqb (t .answer) 26 ≡ u → (w || (x || (y || (u || eqb (t .answer) 27)))) ≡ true → inside (t .lo) (t .hi) v ≡ true
     go true x y u ew ex ey eu h = here 0 ew z
     go false true y u ew ex ey eu h = here 24 ex p
     go false false true u ew ex ey eu h = here 25 ey q
@@ -69,7 +69,7 @@ pub fits-fill : (ts : List Line) (xs : List ℕ) → length xs ≡ need ts → a
 unfolding all fine fill need
 fits-fill [] xs n a c = none
 fits-fill (t ∷ ts) xs n a c =
-    let v = cond (t .free) (take (t .n) xs) (replicate (t .n) (t .lo)) in
+    let v = cond (t .given) (take (t .count) xs) (replicate (t .count) (t .lo)) in
     let vs = fill ts (drop (own t) xs) in
     let b = and-both (tight t) (all tight ts) a in
     let z = and-both (lineOk 0 t v) (fine 0 ts vs) (c .c0) in
@@ -77,9 +77,9 @@ fits-fill (t ∷ ts) xs n a c =
     let q = and-both (lineOk 25 t v) (fine 25 ts vs) (c .c25) in
     let r = and-both (lineOk 26 t v) (fine 26 ts vs) (c .c26) in
     let s = and-both (lineOk 27 t v) (fine 27 ts vs) (c .c27) in
-    line (long (t .free) refl) (line-inside t v (b .0) (z .0) (p .0) (q .0) (r .0) (s .0))
+    line (long (t .given) refl) (line-inside t v (b .0) (z .0) (p .0) (q .0) (r .0) (s .0))
     (fits-fill ts (drop (own t) xs) (omega (arith, length-drop (own t) xs)) (b .1) record { c0 = z .1; c24 = p .1; c25 = q .1; c26 = r .1; c27 = s .1 })
   where
-    long : (b : Bool) → t .free ≡ b → length (cond (t .free) (take (t .n) xs) (replicate (t .n) (t .lo))) ≡ t .n
-    long true e = let o : own t ≡ t .n = if-yes (t .n) 0 e in rw e (length-take-le (t .n) xs (omega arith))
-    long false e = rw e (length-replicate (t .n) (t .lo))
+    long : (b : Bool) → t .given ≡ b → length (cond (t .given) (take (t .count) xs) (replicate (t .count) (t .lo))) ≡ t .count
+    long true e = let o : own t ≡ t .count = if-yes (t .count) 0 e in rw e (length-take-le (t .count) xs (omega arith))
+    long false e = rw e (length-replicate (t .count) (t .lo))

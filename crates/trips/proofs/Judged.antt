@@ -18,12 +18,12 @@ use Rattle.laws.proofs.Refusals.{stop, pass}
 use Rattle.format.specs.declared.Line.{Line}
 use Rattle.format.specs.Format.{just, size, times, decode, flat, need, fill, inside, fine}
 use Rattle.format.proofs.Tables.{size-append, size-times, need-append, fine-append, fine-join, fill-join, length-fill}
-use Rattle.packet.specs.declared.Form.{Form}
-use Rattle.packet.specs.Table.{Row, formOf, contentBytes, rowOf, countIn, contentLines, code, ending, packet}
+use Rattle.packet.specs.declared.Kind.{Kind}
+use Rattle.packet.specs.Table.{Row, kindOf, contentBytes, rowOf, countIn, contentLines, code, ending, packet}
 use Rattle.packet.specs.declared.Fields.{Fields}
 use Rattle.packet.specs.declared.Content.{Content}
 use Rattle.packet.specs.Content.{contentOf, numbersIn, countFor, noSuchDay}
-use Rattle.packet.specs.Reading.{kindIn, lengthIn, codesIn, formIn, contentAt, contentSize, countOf, countSize, partAt, tableOf, valuesIn, numbersAt, frontIn, bodyIn, backIn, contentIn, digitsIn, zeros, padded, codesOf, hasEntries, fieldsOf, sizeBad, lengthBad, isUnknown, fieldBad, readCases, readAnswer, openedBy, opened, partBy, bodyOf, textAnswer, textOf}
+use Rattle.packet.specs.Reading.{typeIn, lengthIn, codesIn, kindIn, contentAt, contentSize, countOf, countSize, partAt, tableOf, valuesIn, numbersAt, frontIn, bodyIn, backIn, contentIn, digitsIn, zeros, padded, codesOf, hasEntries, fieldsOf, sizeBad, lengthBad, isUnknown, fieldBad, readCases, readAnswer, openedBy, opened, partBy, bodyOf, textAnswer, textOf}
 use Rattle.packet.specs.Writing.{rowFor, frontFor, backFor, bodyFor, sizeFor, tableFor, numbersFor, valuesFor, lentBad, notWritten, countBad, digitBad, otherType, bodyLost, digitsLost, notTaken, writtenAnswer, writtenBy, written}
 use Rattle.packet.proofs.Column.{count-size, content-size, column}
 use Rattle.packet.proofs.Accepted.{Accepted, accepted, right-size, body-inside, later, later-not, text-later, text-there}
@@ -31,10 +31,10 @@ use Rattle.packet.proofs.Refused.{no-part}
 use Rattle.trips.proofs.Text.{is-body}
 use Rattle.trips.specs.Given.{Alike, signed, unsigned}
 use Rattle.trips.proofs.Parts.{size-code, need-code, content-need}
-use Rattle.packet.specs.declared.Sort.{Sort}
-use Rattle.packet.specs.declared.Sort.the-variants as sort
+use Rattle.packet.specs.declared.Counting.{Counting}
+use Rattle.packet.specs.declared.Counting.the-variants as counting
 use Rattle.packet.specs.Table.{countBy}
-use Rattle.packet.specs.Content.{partsOf, formFor}
+use Rattle.packet.specs.Content.{partsOf, kindFor}
 use Rattle.packet.proofs.Lent.{one-each, bodied-by}
 use Rattle.trips.proofs.Taken.{front-long, back-long}
 
@@ -43,25 +43,25 @@ decode-left : (ts : List Line) (u l : List ℕ) (p : ℕ) → p + size ts ≤ le
 unfolding decode size
 decode-left [] u l p h = refl
 decode-left (t ∷ ts) u l p h =
-    ap₂ (λ (v : List ℕ) (vs : List (List ℕ)). v ∷ vs) (run-left u l p (t .n) (t .w) (omega arith)) (decode-left ts u l (p + t .n * t .w) (omega arith))
+    ap₂ (λ (v : List ℕ) (vs : List (List ℕ)). v ∷ vs) (run-left u l p (t .count) (t .width) (omega arith)) (decode-left ts u l (p + t .count * t .width) (omega arith))
 
 -- ---- a count is read from the content, or there is none
-counted : (f : Form) → (countSize (rowOf f .sort) ≡ 8) ⊎ ((l m : List ℕ) (q n : ℕ) → countIn (rowOf f) l q n ≡ countIn (rowOf f) m q n)
-counted f = by (rowOf f .sort) (λ l q. at l (q + size (rowOf f .before)) 8)
+counted : (f : Kind) → (countSize (rowOf f .counting) ≡ 8) ⊎ ((l m : List ℕ) (q n : ℕ) → countIn (rowOf f) l q n ≡ countIn (rowOf f) m q n)
+counted f = by (rowOf f .counting) (λ l q. at l (q + size (rowOf f .before)) 8)
   where
-    by : (s : Sort) (k : List ℕ → ℕ → ℕ) → (countSize s ≡ 8) ⊎ ((l m : List ℕ) (q n : ℕ) → countBy s (k l q) n ≡ countBy s (k m q) n)
-    by sort.Fixed k = inr (λ l m q n. refl)
-    by sort.Counted k = inl refl
-    by sort.Raw k = inr (λ l m q n. refl)
-    by sort.Unknown k = inr (λ l m q n. refl)
+    by : (s : Counting) (k : List ℕ → ℕ → ℕ) → (countSize s ≡ 8) ⊎ ((l m : List ℕ) (q n : ℕ) → countBy s (k l q) n ≡ countBy s (k m q) n)
+    by counting.Fixed k = inr (λ l m q n. refl)
+    by counting.Counted k = inl refl
+    by counting.Raw k = inr (λ l m q n. refl)
+    by counting.Unknown k = inr (λ l m q n. refl)
 
-same-count : (f : Form) (l m : List ℕ) (q n : ℕ) → at l (q + size (rowOf f .before)) 8 ≡ at m (q + size (rowOf f .before)) 8 → countIn (rowOf f) l q n ≡ countIn (rowOf f) m q n
-same-count f l m q n e = ap (λ (k : ℕ). countBy (rowOf f .sort) k n) e
+same-count : (f : Kind) (l m : List ℕ) (q n : ℕ) → at l (q + size (rowOf f .before)) 8 ≡ at m (q + size (rowOf f .before)) 8 → countIn (rowOf f) l q n ≡ countIn (rowOf f) m q n
+same-count f l m q n e = ap (λ (k : ℕ). countBy (rowOf f .counting) k n) e
 
 -- the content's lines are no fewer bits than what stands before its count, and the count
-at-least : (r : Row) (k : ℕ) → size (r .before) + countSize (r .sort) ≤ size (contentLines r k)
+at-least : (r : Row) (k : ℕ) → size (r .before) + countSize (r .counting) ≤ size (contentLines r k)
 unfolding partAt
-at-least r k = omega (arith, content-size r k, count-size (r .sort) 0)
+at-least r k = omega (arith, content-size r k, count-size (r .counting) 0)
 
 -- ---- the packet's last lines: time and signature are asked nothing
 ends-alike : (a : ℕ) (x y z v w : List ℕ) → eqb 0 a ≡ false → fine a ending (x ∷ v ∷ y ∷ []) ≡ fine a ending (z ∷ v ∷ w ∷ [])
@@ -134,14 +134,14 @@ module _ (b c : List ℕ) (long : length b ≡ length c)
     same-digits : run (bits b) (8 * k + 32) 12 4 ≡ run (bits c) (8 * k + 32) 12 4
     same-digits = digits-in b refl ∙ ap (λ (l : List ℕ). run (bits l) 0 12 4) certificate ∙ sym (digits-in c (sym long))
 
-    kind : kindIn b ≡ kindIn c
-    kind = same-at 0 5 (omega arith)
+    type-same : typeIn b ≡ typeIn c
+    type-same = same-at 0 5 (omega arith)
 
     codes : codesIn b ≡ codesIn c
     codes = same-at 16 8 (omega arith)
 
-    form : formIn b ≡ formIn c
-    form = ap formOf kind
+    kind : kindIn b ≡ kindIn c
+    kind = ap kindOf type-same
 
     same-size : sizeBad b ≡ sizeBad c
     unfolding sizeBad
@@ -162,65 +162,65 @@ module _ (b c : List ℕ) (long : length b ≡ length c)
       content-alike = ap₂ (λ (p n : ℕ). p - 77 - 12 * n) long codes
 
       -- the count is the same once it is read from the same place
-      count-from : countIn (rowOf (formIn b)) (bits b) (contentAt b) (contentSize b) ≡ countIn (rowOf (formIn b)) (bits c) (contentAt b) (contentSize b) → countOf b ≡ countOf c
+      count-from : countIn (rowOf (kindIn b)) (bits b) (contentAt b) (contentSize b) ≡ countIn (rowOf (kindIn b)) (bits c) (contentAt b) (contentSize b) → countOf b ≡ countOf c
       unfolding countOf
       count-from e =
           e
-          ∙ ap (λ (f : Form). countIn (rowOf f) (bits c) (contentAt b) (contentSize b)) form
-          ∙ ap₂ (λ (n m : ℕ). countIn (rowOf (formIn c)) (bits c) (24 + 96 * n) m) codes content-alike
+          ∙ ap (λ (f : Kind). countIn (rowOf f) (bits c) (contentAt b) (contentSize b)) kind
+          ∙ ap₂ (λ (n m : ℕ). countIn (rowOf (kindIn c)) (bits c) (24 + 96 * n) m) codes content-alike
 
       -- a content too short for its count is too short whatever is read for it
-      too-short : (x : List ℕ) → formIn x ≡ formIn b → contentSize x ≡ contentSize b → countSize (rowOf (formIn b) .sort) ≡ 8
-          → 8 * contentSize b < size (rowOf (formIn b) .before) + 8 → lengthBad x ≡ true
+      too-short : (x : List ℕ) → kindIn x ≡ kindIn b → contentSize x ≡ contentSize b → countSize (rowOf (kindIn b) .counting) ≡ 8
+          → 8 * contentSize b < size (rowOf (kindIn b) .before) + 8 → lengthBad x ≡ true
       unfolding lengthBad
       too-short x f m e less =
-          let n = at-least (rowOf (formIn x)) (countOf x) in
-          let w : size (rowOf (formIn x) .before) ≡ size (rowOf (formIn b) .before) = ap (λ (g : Form). size (rowOf g .before)) f in
-          let y : countSize (rowOf (formIn x) .sort) ≡ 8 = ap (λ (g : Form). countSize (rowOf g .sort)) f ∙ e in
-          ap not (ne-eqb (contentBytes (formIn x) (countOf x)) (contentSize x) (λ (z : contentBytes (formIn x) (countOf x) ≡ contentSize x). omega (arith, column (formIn x) (countOf x))))
+          let n = at-least (rowOf (kindIn x)) (countOf x) in
+          let w : size (rowOf (kindIn x) .before) ≡ size (rowOf (kindIn b) .before) = ap (λ (g : Kind). size (rowOf g .before)) f in
+          let y : countSize (rowOf (kindIn x) .counting) ≡ 8 = ap (λ (g : Kind). countSize (rowOf g .counting)) f ∙ e in
+          ap not (ne-eqb (contentBytes (kindIn x) (countOf x)) (contentSize x) (λ (z : contentBytes (kindIn x) (countOf x) ≡ contentSize x). omega (arith, column (kindIn x) (countOf x))))
 
       -- so the counts are the same, or both lengths are wrong
       counts : (countOf b ≡ countOf c) ⊎ ((lengthBad b ≡ true) × (lengthBad c ≡ true))
-      counts = by-form (counted (formIn b))
+      counts = by-kind (counted (kindIn b))
         where
-          by-form : (countSize (rowOf (formIn b) .sort) ≡ 8) ⊎ ((l m : List ℕ) (q n : ℕ) → countIn (rowOf (formIn b)) l q n ≡ countIn (rowOf (formIn b)) m q n)
+          by-kind : (countSize (rowOf (kindIn b) .counting) ≡ 8) ⊎ ((l m : List ℕ) (q n : ℕ) → countIn (rowOf (kindIn b)) l q n ≡ countIn (rowOf (kindIn b)) m q n)
               → (countOf b ≡ countOf c) ⊎ ((lengthBad b ≡ true) × (lengthBad c ≡ true))
-          by-form (inr g) = inl (count-from (g (bits b) (bits c) (contentAt b) (contentSize b)))
-          by-form (inl e) =
-              by-test (leb (contentAt b + size (rowOf (formIn b) .before) + 8) (8 * k))
-              (λ t. inl (count-from (same-count (formIn b) (bits b) (bits c) (contentAt b) (contentSize b) (same-at (contentAt b + size (rowOf (formIn b) .before)) 8 (leb-true _ _ t)))))
+          by-kind (inr g) = inl (count-from (g (bits b) (bits c) (contentAt b) (contentSize b)))
+          by-kind (inl e) =
+              by-test (leb (contentAt b + size (rowOf (kindIn b) .before) + 8) (8 * k))
+              (λ t. inl (count-from (same-count (kindIn b) (bits b) (bits c) (contentAt b) (contentSize b) (same-at (contentAt b + size (rowOf (kindIn b) .before)) 8 (leb-true _ _ t)))))
               (λ t.
-              let z = leb-false (contentAt b + size (rowOf (formIn b) .before) + 8) (8 * k) t in
+              let z = leb-false (contentAt b + size (rowOf (kindIn b) .before) + 8) (8 * k) t in
               let r = room in
-              inr (too-short b refl refl e (omega arith), too-short c (sym form) (sym content-alike) e (omega arith)))
+              inr (too-short b refl refl e (omega arith), too-short c (sym kind) (sym content-alike) e (omega arith)))
 
       module _ (count : countOf b ≡ countOf c) where
         same-length : lengthBad b ≡ lengthBad c
         unfolding lengthBad
         same-length =
-            ap₂ (λ (f : Form) (n : ℕ). not (eqb (contentBytes f n) (contentSize b))) form count ∙ ap (λ (m : ℕ). not (eqb (contentBytes (formIn c) (countOf c)) m)) content-alike
+            ap₂ (λ (f : Kind) (n : ℕ). not (eqb (contentBytes f n) (contentSize b))) kind count ∙ ap (λ (m : ℕ). not (eqb (contentBytes (kindIn c) (countOf c)) m)) content-alike
 
         same-table : tableOf b ≡ tableOf c
         unfolding tableOf
         same-table =
-            ap₂ (λ (t p : ℕ). packet (rowOf (formOf t)) t p (codesIn b) (countOf b)) kind long
-            ∙ ap₂ (λ (n m : ℕ). packet (rowOf (formIn c)) (kindIn c) (length c) n m) codes count
+            ap₂ (λ (t p : ℕ). packet (rowOf (kindOf t)) t p (codesIn b) (countOf b)) type-same long
+            ∙ ap₂ (λ (n m : ℕ). packet (rowOf (kindIn c)) (typeIn c) (length c) n m) codes count
 
         module _ (l : lengthBad b ≡ false) where
-          content-long : size (contentLines (rowOf (formIn b)) (countOf b)) ≡ 8 * contentSize b
+          content-long : size (contentLines (rowOf (kindIn b)) (countOf b)) ≡ 8 * contentSize b
           content-long = right-size b l
 
           -- no line that is due a number is other
           same-fine : (a : ℕ) → eqb 0 a ≡ false → fine a (tableOf b) (valuesIn b) ≡ fine a (tableOf c) (valuesIn c)
           unfolding tableOf decode
           same-fine a z =
-              let H = above (rowOf (formIn b)) (kindIn b) (length b) (codesIn b) (countOf b) in
-              let n = above-size (rowOf (formIn b)) (kindIn b) (length b) (codesIn b) (countOf b) in
+              let H = above (rowOf (kindIn b)) (typeIn b) (length b) (codesIn b) (countOf b) in
+              let n = above-size (rowOf (kindIn b)) (typeIn b) (length b) (codesIn b) (countOf b) in
               let r = room in
               let m = content-long in
               let q : 0 + size H ≡ 8 * k = omega arith in
               let split : (x : List ℕ) → fine a (tableOf b) (decode (tableOf b) (bits x) 0) ≡ (fine a H (decode H (bits x) 0) && fine a ending (decode ending (bits x) (8 * k))) =
-              λ x. ap (λ (T : List Line). fine a T (decode T (bits x) 0)) (above-ending (rowOf (formIn b)) (kindIn b) (length b) (codesIn b) (countOf b))
+              λ x. ap (λ (T : List Line). fine a T (decode T (bits x) 0)) (above-ending (rowOf (kindIn b)) (typeIn b) (length b) (codesIn b) (countOf b))
               ∙ fine-append a H ending (bits x) 0
               ∙ ap (λ (p : ℕ). fine a H (decode H (bits x) 0) && fine a ending (decode ending (bits x) p)) q in
               split b
@@ -235,29 +235,29 @@ module _ (b c : List ℕ) (long : length b ≡ length c)
           same-front =
               let r = room in
               let m = content-long in
-              let n = at-least (rowOf (formIn b)) (countOf b) in
-              ap (flat (rowOf (formIn b) .before)) (same-lines (rowOf (formIn b) .before) (contentAt b) (omega arith))
-              ∙ ap₂ (λ (f : Form) (n : ℕ). flat (rowOf f .before) (decode (rowOf f .before) (bits c) (24 + 96 * n))) form codes
+              let n = at-least (rowOf (kindIn b)) (countOf b) in
+              ap (flat (rowOf (kindIn b) .before)) (same-lines (rowOf (kindIn b) .before) (contentAt b) (omega arith))
+              ∙ ap₂ (λ (f : Kind) (n : ℕ). flat (rowOf f .before) (decode (rowOf f .before) (bits c) (24 + 96 * n))) kind codes
 
           same-field : fieldBad b ≡ fieldBad c
           same-field =
               ap₂ (λ (x : Bool) (d : Bool). not x || d) (same-fine 27 refl)
               (ap noSuchDay
-              (ap₂ (λ (f : Form) (xs : List ℕ). contentOf f xs (countOf b)) form same-front ∙ ap (contentOf (formIn c) (frontIn c)) count))
+              (ap₂ (λ (f : Kind) (xs : List ℕ). contentOf f xs (countOf b)) kind same-front ∙ ap (contentOf (kindIn c) (frontIn c)) count))
 
           same-cases : readCases b ≡ readCases c
           same-cases =
-              ap₂ (λ (x y : Bool). (x, 20) ∷ (y, 23) ∷ (lengthBad b, 26) ∷ (not (fine 24 (tableOf b) (valuesIn b)), 24) ∷ (not (fine 25 (tableOf b) (valuesIn b)), 25) ∷ (fieldBad b, 27) ∷ []) same-size (ap isUnknown form)
-              ∙ ap₂ (λ (x y : Bool). (sizeBad c, 20) ∷ (isUnknown (formIn c), 23) ∷ (x, 26) ∷ (not y, 24) ∷ (not (fine 25 (tableOf b) (valuesIn b)), 25) ∷ (fieldBad b, 27) ∷ []) same-length (same-fine 24 refl)
-              ∙ ap₂ (λ (x y : Bool). (sizeBad c, 20) ∷ (isUnknown (formIn c), 23) ∷ (lengthBad c, 26) ∷ (not (fine 24 (tableOf c) (valuesIn c)), 24) ∷ (not x, 25) ∷ (y, 27) ∷ []) (same-fine 25 refl) same-field
+              ap₂ (λ (x y : Bool). (x, 20) ∷ (y, 23) ∷ (lengthBad b, 26) ∷ (not (fine 24 (tableOf b) (valuesIn b)), 24) ∷ (not (fine 25 (tableOf b) (valuesIn b)), 25) ∷ (fieldBad b, 27) ∷ []) same-size (ap isUnknown kind)
+              ∙ ap₂ (λ (x y : Bool). (sizeBad c, 20) ∷ (isUnknown (kindIn c), 23) ∷ (x, 26) ∷ (not y, 24) ∷ (not (fine 25 (tableOf b) (valuesIn b)), 25) ∷ (fieldBad b, 27) ∷ []) same-length (same-fine 24 refl)
+              ∙ ap₂ (λ (x y : Bool). (sizeBad c, 20) ∷ (isUnknown (kindIn c), 23) ∷ (lengthBad c, 26) ∷ (not (fine 24 (tableOf c) (valuesIn c)), 24) ∷ (not x, 25) ∷ (y, 27) ∷ []) (same-fine 25 refl) same-field
 
       -- both lengths are wrong: 23 or 26
       both-wrong : lengthBad b ≡ true → lengthBad c ≡ true → readAnswer b ≡ readAnswer c
       unfolding readAnswer
       both-wrong x y =
-          by-test (isUnknown (formIn b))
-          (λ t. pass 20 _ s ∙ stop 23 _ t ∙ sym (pass 20 _ (sym same-size ∙ s) ∙ stop 23 _ (ap isUnknown (sym form) ∙ t)))
-          (λ t. pass 20 _ s ∙ pass 23 _ t ∙ stop 26 _ x ∙ sym (pass 20 _ (sym same-size ∙ s) ∙ pass 23 _ (ap isUnknown (sym form) ∙ t) ∙ stop 26 _ y))
+          by-test (isUnknown (kindIn b))
+          (λ t. pass 20 _ s ∙ stop 23 _ t ∙ sym (pass 20 _ (sym same-size ∙ s) ∙ stop 23 _ (ap isUnknown (sym kind) ∙ t)))
+          (λ t. pass 20 _ s ∙ pass 23 _ t ∙ stop 26 _ x ∙ sym (pass 20 _ (sym same-size ∙ s) ∙ pass 23 _ (ap isUnknown (sym kind) ∙ t) ∙ stop 26 _ y))
 
       sized-alike : readAnswer b ≡ readAnswer c
       unfolding readAnswer
@@ -295,42 +295,42 @@ module _ (b c : List ℕ) (long : length b ≡ length c)
     tall : 77 ≤ length b
     tall = omega (arith, z .least)
 
-    same-form : formIn b ≡ formIn c
-    same-form = form tall
+    same-kind : kindIn b ≡ kindIn c
+    same-kind = kind tall
 
     same-codes : codesIn b ≡ codesIn c
     same-codes = codes tall
 
-    ended : contentAt b + size (contentLines (rowOf (formIn b)) (countOf b)) ≡ 8 * k
+    ended : contentAt b + size (contentLines (rowOf (kindIn b)) (countOf b)) ≡ 8 * k
     ended = omega (arith, z .right, z .least)
 
     counts-alike : countOf b ≡ countOf c
     unfolding countOf
     counts-alike =
-        let n = at-least (rowOf (formIn b)) (countOf b) in
+        let n = at-least (rowOf (kindIn b)) (countOf b) in
         let w = ended in
-        by-count (counted (formIn b)) n w
-        ∙ ap (λ (f : Form). countIn (rowOf f) (bits c) (contentAt b) (contentSize b)) same-form
-        ∙ ap₂ (λ (n m : ℕ). countIn (rowOf (formIn c)) (bits c) (24 + 96 * n) m) same-codes (ap₂ (λ (p n : ℕ). p - 77 - 12 * n) long same-codes)
+        by-count (counted (kindIn b)) n w
+        ∙ ap (λ (f : Kind). countIn (rowOf f) (bits c) (contentAt b) (contentSize b)) same-kind
+        ∙ ap₂ (λ (n m : ℕ). countIn (rowOf (kindIn c)) (bits c) (24 + 96 * n) m) same-codes (ap₂ (λ (p n : ℕ). p - 77 - 12 * n) long same-codes)
       where
-        by-count : (countSize (rowOf (formIn b) .sort) ≡ 8) ⊎ ((l m : List ℕ) (q n : ℕ) → countIn (rowOf (formIn b)) l q n ≡ countIn (rowOf (formIn b)) m q n)
-            → size (rowOf (formIn b) .before) + countSize (rowOf (formIn b) .sort) ≤ size (contentLines (rowOf (formIn b)) (countOf b))
-            → contentAt b + size (contentLines (rowOf (formIn b)) (countOf b)) ≡ 8 * k
-            → countIn (rowOf (formIn b)) (bits b) (contentAt b) (contentSize b) ≡ countIn (rowOf (formIn b)) (bits c) (contentAt b) (contentSize b)
+        by-count : (countSize (rowOf (kindIn b) .counting) ≡ 8) ⊎ ((l m : List ℕ) (q n : ℕ) → countIn (rowOf (kindIn b)) l q n ≡ countIn (rowOf (kindIn b)) m q n)
+            → size (rowOf (kindIn b) .before) + countSize (rowOf (kindIn b) .counting) ≤ size (contentLines (rowOf (kindIn b)) (countOf b))
+            → contentAt b + size (contentLines (rowOf (kindIn b)) (countOf b)) ≡ 8 * k
+            → countIn (rowOf (kindIn b)) (bits b) (contentAt b) (contentSize b) ≡ countIn (rowOf (kindIn b)) (bits c) (contentAt b) (contentSize b)
         by-count (inr g) n w = g (bits b) (bits c) (contentAt b) (contentSize b)
-        by-count (inl e) n w = same-count (formIn b) (bits b) (bits c) (contentAt b) (contentSize b) (same-at (contentAt b + size (rowOf (formIn b) .before)) 8 (omega arith))
+        by-count (inl e) n w = same-count (kindIn b) (bits b) (bits c) (contentAt b) (contentSize b) (same-at (contentAt b + size (rowOf (kindIn b) .before)) 8 (omega arith))
 
     -- lines that end before the time does give the same numbers
     same-numbers : (ts : List Line) (p : ℕ) → p + size ts ≤ 8 * k → numbersAt ts b p ≡ numbersAt ts c p
     same-numbers ts p h = ap (flat ts) (same-lines ts p h)
 
-    parts-in : (size (rowOf (formIn b) .before) ≤ size (contentLines (rowOf (formIn b)) (countOf b)))
-        × (partAt (rowOf (formIn b)) + size (times (countOf b) (rowOf (formIn b) .each)) ≤ size (contentLines (rowOf (formIn b)) (countOf b)))
-        × (partAt (rowOf (formIn b)) + countOf b * size (rowOf (formIn b) .each) + size (rowOf (formIn b) .after) ≤ size (contentLines (rowOf (formIn b)) (countOf b)))
+    parts-in : (size (rowOf (kindIn b) .before) ≤ size (contentLines (rowOf (kindIn b)) (countOf b)))
+        × (partAt (rowOf (kindIn b)) + size (times (countOf b) (rowOf (kindIn b) .each)) ≤ size (contentLines (rowOf (kindIn b)) (countOf b)))
+        × (partAt (rowOf (kindIn b)) + countOf b * size (rowOf (kindIn b) .each) + size (rowOf (kindIn b) .after) ≤ size (contentLines (rowOf (kindIn b)) (countOf b)))
     parts-in =
-        let n = content-size (rowOf (formIn b)) (countOf b) in
-        let m = size-times (countOf b) (rowOf (formIn b) .each) in
-        let w = at-least (rowOf (formIn b)) (countOf b) in
+        let n = content-size (rowOf (kindIn b)) (countOf b) in
+        let m = size-times (countOf b) (rowOf (kindIn b) .each) in
+        let w = at-least (rowOf (kindIn b)) (countOf b) in
         (omega arith, omega arith, omega arith)
 
     fronts : frontIn b ≡ frontIn c
@@ -338,26 +338,26 @@ module _ (b c : List ℕ) (long : length b ≡ length c)
     fronts =
         let e = ended in
         let i = parts-in .0 in
-        same-numbers (rowOf (formIn b) .before) (contentAt b) (omega arith)
-        ∙ ap₂ (λ (f : Form) (n : ℕ). numbersAt (rowOf f .before) c (24 + 96 * n)) same-form same-codes
+        same-numbers (rowOf (kindIn b) .before) (contentAt b) (omega arith)
+        ∙ ap₂ (λ (f : Kind) (n : ℕ). numbersAt (rowOf f .before) c (24 + 96 * n)) same-kind same-codes
 
     bodies : bodyIn b ≡ bodyIn c
     unfolding bodyIn
     bodies =
         let e = ended in
         let i = parts-in .1 in
-        same-numbers (times (countOf b) (rowOf (formIn b) .each)) (contentAt b + partAt (rowOf (formIn b))) (omega arith)
-        ∙ ap₂ (λ (f : Form) (n : ℕ). numbersAt (times (countOf b) (rowOf f .each)) c (24 + 96 * n + partAt (rowOf f))) same-form same-codes
-        ∙ ap (λ (n : ℕ). numbersAt (times n (rowOf (formIn c) .each)) c (contentAt c + partAt (rowOf (formIn c)))) counts-alike
+        same-numbers (times (countOf b) (rowOf (kindIn b) .each)) (contentAt b + partAt (rowOf (kindIn b))) (omega arith)
+        ∙ ap₂ (λ (f : Kind) (n : ℕ). numbersAt (times (countOf b) (rowOf f .each)) c (24 + 96 * n + partAt (rowOf f))) same-kind same-codes
+        ∙ ap (λ (n : ℕ). numbersAt (times n (rowOf (kindIn c) .each)) c (contentAt c + partAt (rowOf (kindIn c)))) counts-alike
 
     backs : backIn b ≡ backIn c
     unfolding backIn
     backs =
         let e = ended in
         let i = parts-in .2 in
-        same-numbers (rowOf (formIn b) .after) (contentAt b + (partAt (rowOf (formIn b)) + countOf b * size (rowOf (formIn b) .each))) (omega arith)
-        ∙ ap₂ (λ (f : Form) (n : ℕ). numbersAt (rowOf f .after) c (24 + 96 * n + (partAt (rowOf f) + countOf b * size (rowOf f .each)))) same-form same-codes
-        ∙ ap (λ (n : ℕ). numbersAt (rowOf (formIn c) .after) c (contentAt c + (partAt (rowOf (formIn c)) + n * size (rowOf (formIn c) .each)))) counts-alike
+        same-numbers (rowOf (kindIn b) .after) (contentAt b + (partAt (rowOf (kindIn b)) + countOf b * size (rowOf (kindIn b) .each))) (omega arith)
+        ∙ ap₂ (λ (f : Kind) (n : ℕ). numbersAt (rowOf f .after) c (24 + 96 * n + (partAt (rowOf f) + countOf b * size (rowOf f .each)))) same-kind same-codes
+        ∙ ap (λ (n : ℕ). numbersAt (rowOf (kindIn c) .after) c (contentAt c + (partAt (rowOf (kindIn c)) + n * size (rowOf (kindIn c) .each)))) counts-alike
 
     all-codes : codesOf b ≡ codesOf c
     unfolding codesOf
@@ -366,10 +366,10 @@ module _ (b c : List ℕ) (long : length b ≡ length c)
         same-numbers (times (codesIn b) code) 24 (omega (arith, z .least)) ∙ ap (λ (n : ℕ). numbersAt (times n code) c 24) same-codes
 
     contents : contentIn b ≡ contentIn c
-    contents = ap₂ (λ (f : Form) (xs : List ℕ). contentOf f xs (countOf b)) same-form fronts ∙ ap (contentOf (formIn c) (frontIn c)) counts-alike
+    contents = ap₂ (λ (f : Kind) (xs : List ℕ). contentOf f xs (countOf b)) same-kind fronts ∙ ap (contentOf (kindIn c) (frontIn c)) counts-alike
 
     digits : digitsIn b ≡ digitsIn c
-    digits = ap₂ (λ (f : Form) (xs : List ℕ). drop (numbersIn f) xs ++ backIn b) same-form fronts ∙ ap (λ (xs : List ℕ). drop (numbersIn (formIn c)) (frontIn c) ++ xs) backs
+    digits = ap₂ (λ (f : Kind) (xs : List ℕ). drop (numbersIn f) xs ++ backIn b) same-kind fronts ∙ ap (λ (xs : List ℕ). drop (numbersIn (kindIn c)) (frontIn c) ++ xs) backs
 
     certificates : run (bits b) (8 * (length b - 70)) 12 4 ≡ run (bits c) (8 * (length c - 70)) 12 4
     certificates =
@@ -378,12 +378,12 @@ module _ (b c : List ℕ) (long : length b ≡ length c)
 
     fields-alike : signed (fieldsOf b) 0 (zeros 64) ≡ signed (fieldsOf c) 0 (zeros 64)
     unfolding fieldsOf
-    fields-alike = rw (contents, digits, certificates, kind tall, same-codes)
+    fields-alike = rw (contents, digits, certificates, type-same tall, same-codes)
 
     opened-alike : unsigned (openedBy 0 b) ≡ unsigned (openedBy 0 c)
     opened-alike =
-        ap₂ (λ (f : Fields) (xs : List ℕ). record { answer = 0; fields = f; codes = padded 322 xs; entries = padded 272 (cond (hasEntries (formIn b)) (bodyIn b) []) }) fields-alike all-codes
-        ∙ ap₂ (λ (f : Form) (xs : List ℕ). record { answer = 0; fields = signed (fieldsOf c) 0 (zeros 64); codes = padded 322 (codesOf c); entries = padded 272 (cond (hasEntries f) xs []) }) same-form bodies
+        ap₂ (λ (f : Fields) (xs : List ℕ). record { answer = 0; fields = f; codes = padded 322 xs; entries = padded 272 (cond (hasEntries (kindIn b)) (bodyIn b) []) }) fields-alike all-codes
+        ∙ ap₂ (λ (f : Kind) (xs : List ℕ). record { answer = 0; fields = signed (fieldsOf c) 0 (zeros 64); codes = padded 322 (codesOf c); entries = padded 272 (cond (hasEntries f) xs []) }) same-kind bodies
 
 -- a part that ends before the others differ
 same-part : (n from m : ℕ) (b c : List ℕ) → take n b ≡ take n c → n ≤ length b → n ≤ length c → from + m ≤ n → take m (drop from b) ≡ take m (drop from c)
@@ -414,9 +414,9 @@ never-judged b c w = (go (readAnswer b) refl, body (readAnswer b) refl, text (re
     text : (a : ℕ) → readAnswer b ≡ a → textAnswer b ≡ textAnswer c
     text zero h =
         let t = tall b c (w .long) (w .front) (w .certificate) (accepted b h) (accepted c (sym e ∙ h)) in
-        text-later b ∙ ap₂ (λ (n m : ℕ). later n (not (eqb m 15))) e (kind b c (w .long) (w .front) (w .certificate) t) ∙ sym (text-later c)
+        text-later b ∙ ap₂ (λ (n m : ℕ). later n (not (eqb m 15))) e (type-same b c (w .long) (w .front) (w .certificate) t) ∙ sym (text-later c)
     text (suc a) h =
-        let n : (x : List ℕ) → readAnswer x ≡ suc a → textAnswer x ≡ suc a = λ x r. text-later x ∙ later-not (readAnswer x) (not (eqb (kindIn x) 15)) (λ (z : readAnswer x ≡ 0). let y = sym r ∙ z in omega arith) ∙ r in
+        let n : (x : List ℕ) → readAnswer x ≡ suc a → textAnswer x ≡ suc a = λ x r. text-later x ∙ later-not (readAnswer x) (not (eqb (typeIn x) 15)) (λ (z : readAnswer x ≡ 0). let y = sym r ∙ z in omega arith) ∙ r in
         n b h ∙ sym (n c (sym e ∙ h))
 
     -- where both are accepted: the same place and the same count, before the time
@@ -426,16 +426,16 @@ never-judged b c w = (go (readAnswer b) refl, body (readAnswer b) refl, text (re
         let i = sym e ∙ h in
         let z = accepted b h in
         let y = accepted c i in
-        let f = same-form b c (w .long) (w .front) (w .certificate) z y in
+        let f = same-kind b c (w .long) (w .front) (w .certificate) z y in
         let n = same-codes b c (w .long) (w .front) (w .certificate) z y in
         let m = counts-alike b c (w .long) (w .front) (w .certificate) z y in
-        let from = 3 + 12 * codesIn b + partAt (rowOf (formIn b)) / 8 in
-        let many = cond (hasEntries (formIn b)) 0 (countOf b) in
+        let from = 3 + 12 * codesIn b + partAt (rowOf (kindIn b)) / 8 in
+        let many = cond (hasEntries (kindIn b)) 0 (countOf b) in
         ap (λ (a : ℕ). partBy a from many b) h
         ∙ same-part (length b - 74) from many b c (w .front) (omega arith) (omega (arith, w .long)) (omega (arith, body-inside b z))
-        ∙ ap₂ (λ (g : Form) (k : ℕ). take (cond (hasEntries g) 0 (countOf b)) (drop (3 + 12 * k + partAt (rowOf g) / 8) c)) f n
-        ∙ ap (λ (k : ℕ). take (cond (hasEntries (formIn c)) 0 k) (drop (3 + 12 * codesIn c + partAt (rowOf (formIn c)) / 8) c)) m
-        ∙ sym (ap (λ (a : ℕ). partBy a (3 + 12 * codesIn c + partAt (rowOf (formIn c)) / 8) (cond (hasEntries (formIn c)) 0 (countOf c)) c) i)
+        ∙ ap₂ (λ (g : Kind) (k : ℕ). take (cond (hasEntries g) 0 (countOf b)) (drop (3 + 12 * k + partAt (rowOf g) / 8) c)) f n
+        ∙ ap (λ (k : ℕ). take (cond (hasEntries (kindIn c)) 0 k) (drop (3 + 12 * codesIn c + partAt (rowOf (kindIn c)) / 8) c)) m
+        ∙ sym (ap (λ (a : ℕ). partBy a (3 + 12 * codesIn c + partAt (rowOf (kindIn c)) / 8) (cond (hasEntries (kindIn c)) 0 (countOf c)) c) i)
 
     texts : (a : ℕ) → textAnswer b ≡ a → textOf b ≡ textOf c
     texts (suc a) h =
@@ -449,9 +449,9 @@ never-judged b c w = (go (readAnswer b) refl, body (readAnswer b) refl, text (re
 
 -- ---- the writer
 -- as many of what is lent as the content counts, where the count is right
-body-long : (c : Content) (body : List ℕ) → lentBad (rowFor c .sort) (countFor c body) (need (rowFor c .each)) (length body) ≡ false → length (bodyFor c body) ≡ countFor c body * need (rowFor c .each)
+body-long : (c : Content) (body : List ℕ) → lentBad (rowFor c .counting) (countFor c body) (need (rowFor c .each)) (length body) ≡ false → length (bodyFor c body) ≡ countFor c body * need (rowFor c .each)
 unfolding bodyFor
-body-long c body a = bodied-by (partsOf c .count) (need (rowFor c .each)) body (rowFor c .sort) (one-each (formFor c)) a
+body-long c body a = bodied-by (partsOf c .count) (need (rowFor c .each)) body (rowFor c .counting) (one-each (kindFor c)) a
 
 ending-values : (x : ℕ) (v y : List ℕ) → length v ≡ 12 → fill ending (x ∷ (v ++ y)) ≡ (x ∷ []) ∷ v ∷ take 64 y ∷ []
 unfolding fill
@@ -460,7 +460,7 @@ ending-values x v y h = ap₂ (λ (p q : List ℕ). (x ∷ []) ∷ p ∷ take 64
 -- the numbers before the ending, of fields whose counts are right
 module _ (f : Fields) (codes body : List ℕ) (digits-long : length (f .digits) ≡ 35) (certificate-long : length (f .certificate) ≡ 12) (t : ℕ) (s : List ℕ) where
   abbrev H : List Line
-  H = above (rowFor (f .content)) (f .kind) (sizeFor f body) (f .codes) (countFor (f .content) body)
+  H = above (rowFor (f .content)) (f .typenumber) (sizeFor f body) (f .codes) (countFor (f .content) body)
 
   abbrev front : List ℕ
   front = codes ++ (frontFor (f .content) (f .digits) ++ (bodyFor (f .content) body ++ backFor (f .content) (f .digits)))
@@ -487,7 +487,7 @@ module _ (f : Fields) (codes body : List ℕ) (digits-long : length (f .digits) 
       let K = backFor c (f .digits) in
       let z = x ∷ (f .certificate ++ y) in
       let re : codes ++ (F ++ (B ++ (K ++ z))) ≡ front ++ z = sym (append-assoc codes (F ++ (B ++ K)) z ∙ ap (λ (l : List ℕ). codes ++ l) (append-assoc F (B ++ K) z ∙ ap (λ (l : List ℕ). F ++ l) (append-assoc B K z))) in
-      ap₂ (λ (T : List Line) (l : List ℕ). fine a T (fill T l)) (above-ending (rowFor c) (f .kind) (sizeFor f body) (f .codes) (countFor c body)) re
+      ap₂ (λ (T : List Line) (l : List ℕ). fine a T (fill T l)) (above-ending (rowFor c) (f .typenumber) (sizeFor f body) (f .codes) (countFor c body)) re
       ∙ ap (fine a (H ++ ending)) (fill-join H ending front z (front-need e))
       ∙ fine-join a H ending (fill H front) (fill ending z) (length-fill H front)
       ∙ ap (λ (v : List (List ℕ)). fine a H (fill H front) && fine a ending v) (ending-values x (f .certificate) y certificate-long)
@@ -501,7 +501,7 @@ module _ (f : Fields) (codes body : List ℕ) (digits-long : length (f .digits) 
   answers-alike : (room : ℕ) → writtenAnswer f codes body room ≡ writtenAnswer (signed f t s) codes body room
   unfolding writtenAnswer countBad digitBad notTaken tableFor sizeFor
   answers-alike room =
-      by-test (notWritten (f .kind))
+      by-test (notWritten (f .typenumber))
       (λ x. stop 23 _ x ∙ sym (stop 23 _ x))
       (λ x.
       by-test (countBad f codes body)
@@ -509,8 +509,8 @@ module _ (f : Fields) (codes body : List ℕ) (digits-long : length (f .digits) 
       (λ y.
       let p = lines-alike y 25 refl in
       let q = lines-alike y 27 refl in
-      ap₂ (λ (u v : Bool). first ((notWritten (f .kind), 23) ∷ (countBad f codes body, 26) ∷ (not u || not (inside 0 9 (f .digits)), 25)
-      ∷ (otherType f || (bodyLost (rowFor (f .content) .sort) (length body) || (digitsLost (f .content) (f .digits) || ((eqb (f .kind) 1 && not (eqb (f .codes) 0)) || (not v || noSuchDay (f .content))))), 27)
+      ap₂ (λ (u v : Bool). first ((notWritten (f .typenumber), 23) ∷ (countBad f codes body, 26) ∷ (not u || not (inside 0 9 (f .digits)), 25)
+      ∷ (otherType f || (bodyLost (rowFor (f .content) .counting) (length body) || (digitsLost (f .content) (f .digits) || ((eqb (f .typenumber) 1 && not (eqb (f .codes) 0)) || (not v || noSuchDay (f .content))))), 27)
       ∷ (ltb 250 (sizeFor f body), 20) ∷ (ltb room (sizeFor f body), 10) ∷ [])) p q))
 
 -- Fields that differ only in time and signature have the same answer and length from the writer, whatever codes, body and room are lent.

@@ -17,11 +17,11 @@ use Rattle.format.specs.declared.Line.{Line}
 use Rattle.format.specs.Format.{times, just, size, encode, decode, need, fill, flat, fine}
 use Rattle.format.proofs.Tables.{flat-fill, given, given-fine, length-flat, need-times}
 use Rattle.format.proofs.Round.{Fits, encode-long, under-encode, read-write}
-use Rattle.packet.specs.declared.Form.{Form}
+use Rattle.packet.specs.declared.Kind.{Kind}
 use Rattle.packet.specs.declared.Fields.{Fields}
-use Rattle.packet.specs.Table.{formOf, contentBytes, rowOf, countIn, contentLines, code, ending, packet}
-use Rattle.packet.specs.Content.{formFor, numbersOf, numbersIn, countFor, noSuchDay}
-use Rattle.packet.specs.Reading.{kindIn, lengthIn, codesIn, formIn, contentAt, contentSize, countOf, partAt, tableOf, valuesIn, numbersAt, frontIn, bodyIn, backIn, contentIn, digitsIn, padded, codesOf, hasEntries, fieldsOf, sizeBad, lengthBad, isUnknown, readAnswer, opened, bodyOf}
+use Rattle.packet.specs.Table.{kindOf, contentBytes, rowOf, countIn, contentLines, code, ending, packet}
+use Rattle.packet.specs.Content.{kindFor, numbersOf, numbersIn, countFor, noSuchDay}
+use Rattle.packet.specs.Reading.{typeIn, lengthIn, codesIn, kindIn, contentAt, contentSize, countOf, partAt, tableOf, valuesIn, numbersAt, frontIn, bodyIn, backIn, contentIn, digitsIn, padded, codesOf, hasEntries, fieldsOf, sizeBad, lengthBad, isUnknown, readAnswer, opened, bodyOf}
 use Rattle.packet.specs.Writing.{rowFor, digitsBefore, digitsAfter, frontFor, backFor, bodyFor, sizeFor, tableFor, numbersFor, valuesFor, bytesFor}
 use Rattle.packet.proofs.Column.{content-size, column}
 use Rattle.trips.specs.Given.{asGiven}
@@ -52,14 +52,14 @@ module _ (f : Fields) (codes body : List ℕ) (a : Taken f codes body) (y : Fitt
       let e3 = length-append (bodyFor c body) (backFor c (f .digits) ++ l3) in
       let e4 = length-append (backFor c (f .digits)) l3 in
       let e5 = length-append (f .certificate) (f .signature) in
-      omega (arith, e1, e2, e3, e4, e5, a .codes-long, front-long c (f .digits) (y .digits-long), back-long c (f .digits) (y .digits-long), ap length body-whole, body-long, y .certificate-long, y .signature-long, parts.need-packet (rowFor c) (f .kind) (sizeFor f body) (f .codes) k, parts.content-need (rowFor c) k)
+      omega (arith, e1, e2, e3, e4, e5, a .codes-long, front-long c (f .digits) (y .digits-long), back-long c (f .digits) (y .digits-long), ap length body-whole, body-long, y .certificate-long, y .signature-long, parts.need-packet (rowFor c) (f .typenumber) (sizeFor f body) (f .codes) k, parts.content-need (rowFor c) k)
 
   size-right : size (tableFor f body) ≡ 8 * sizeFor f body
   unfolding tableFor sizeFor
   size-right =
       let c = f .content in
       let k = countFor c body in
-      omega (arith, parts.size-packet (rowFor c) (f .kind) (sizeFor f body) (f .codes) k, column (formFor c) k)
+      omega (arith, parts.size-packet (rowFor c) (f .typenumber) (sizeFor f body) (f .codes) k, column (kindFor c) k)
 
   given-26 : (w x : ℕ) → given 26 (just w x) ≡ true
   given-26 w x = rw (eq-eqb x x refl)
@@ -70,13 +70,13 @@ module _ (f : Fields) (codes body : List ℕ) (a : Taken f codes body) (y : Fitt
       let c = f .content in
       let k = countFor c body in
       let r = rowFor c in
-      let g = contents.fair (formFor c) in
+      let g = contents.fair (kindFor c) in
       let p = sizeFor f body in
       record {
         c0 = y .bits-hold;
-        c24 = given-fine 24 (packet r (f .kind) p (f .codes) k) (numbersFor f codes body) (parts.all-packet (given 24) r (f .kind) p (f .codes) k refl refl refl (parts.all-count (given 24) (r .sort) k refl) refl refl (g .given1) (g .given2) (g .given3));
+        c24 = given-fine 24 (packet r (f .typenumber) p (f .codes) k) (numbersFor f codes body) (parts.all-packet (given 24) r (f .typenumber) p (f .codes) k refl refl refl (parts.all-count (given 24) (r .counting) k refl) refl refl (g .given1) (g .given2) (g .given3));
         c25 = a .c25;
-        c26 = given-fine 26 (packet r (f .kind) p (f .codes) k) (numbersFor f codes body) (parts.all-packet (given 26) r (f .kind) p (f .codes) k (given-26 5 (f .kind)) (given-26 11 (p - 2)) (given-26 8 (f .codes)) (parts.all-count (given 26) (r .sort) k (given-26 8 k)) refl refl (g .count1) (g .count2) (g .count3));
+        c26 = given-fine 26 (packet r (f .typenumber) p (f .codes) k) (numbersFor f codes body) (parts.all-packet (given 26) r (f .typenumber) p (f .codes) k (given-26 5 (f .typenumber)) (given-26 11 (p - 2)) (given-26 8 (f .codes)) (parts.all-count (given 26) (r .counting) k (given-26 8 k)) refl refl (g .count1) (g .count2) (g .count3));
         c27 = a .c27;
       }
 
@@ -86,13 +86,13 @@ module _ (f : Fields) (codes body : List ℕ) (a : Taken f codes body) (y : Fitt
       let c = f .content in
       let k = countFor c body in
       let r = rowFor c in
-      let g = contents.fair (formFor c) in
+      let g = contents.fair (kindFor c) in
       let p = sizeFor f body in
-      let t1 : fitting.tight (just 5 (f .kind)) ≡ true = rw (lt-ltb (f .kind) 32 (type-small (f .kind) (a .known))) in
+      let t1 : fitting.tight (just 5 (f .typenumber)) ≡ true = rw (lt-ltb (f .typenumber) 32 (type-small (f .typenumber) (a .known))) in
       let t2 : fitting.tight (just 11 (p - 2)) ≡ true = rw (lt-ltb (p - 2) 2048 (omega (arith, a .small))) in
       let t3 : fitting.tight (just 8 (f .codes)) ≡ true = rw (lt-ltb (f .codes) 256 (omega (arith, a .few))) in
-      fitting.fits-fill (packet r (f .kind) p (f .codes) k) (numbersFor f codes body) numbers-fit
-      (parts.all-packet fitting.tight r (f .kind) p (f .codes) k t1 t2 t3 (count-fits c body (a .lent)) refl refl (g .tight1) (g .tight2) (g .tight3)) clean
+      fitting.fits-fill (packet r (f .typenumber) p (f .codes) k) (numbersFor f codes body) numbers-fit
+      (parts.all-packet fitting.tight r (f .typenumber) p (f .codes) k t1 t2 t3 (count-fits c body (a .lent)) refl refl (g .tight1) (g .tight2) (g .tight3)) clean
 
   -- ---- the bytes, read
   pub long : length (bytesFor f codes body) ≡ sizeFor f body
@@ -106,9 +106,9 @@ module _ (f : Fields) (codes body : List ℕ) (a : Taken f codes body) (y : Fitt
   values = read-write (tableFor f body) (valuesFor f codes body) fits (omega (arith, size-right))
 
   -- ---- what the packet says of itself
-  kind-back : kindIn (bytesFor f codes body) ≡ f .kind
+  type-back : typeIn (bytesFor f codes body) ≡ f .typenumber
   unfolding tableFor packet decode fill run
-  kind-back = ap (λ (vs : List (List ℕ)). getD (getD vs 0 []) 0 0) values
+  type-back = ap (λ (vs : List (List ℕ)). getD (getD vs 0 []) 0 0) values
 
   length-back : lengthIn (bytesFor f codes body) ≡ sizeFor f body - 2
   unfolding tableFor packet decode fill run
@@ -118,30 +118,30 @@ module _ (f : Fields) (codes body : List ℕ) (a : Taken f codes body) (y : Fitt
   unfolding tableFor packet decode fill run
   codes-back = ap (λ (vs : List (List ℕ)). getD (getD vs 2 []) 0 0) values
 
-  form-back : formIn (bytesFor f codes body) ≡ formFor (f .content)
-  form-back = ap formOf kind-back ∙ a .form
+  kind-back : kindIn (bytesFor f codes body) ≡ kindFor (f .content)
+  kind-back = ap kindOf type-back ∙ a .kind
 
-  bytes-long : contentBytes (formFor (f .content)) (countFor (f .content) body) ≡ contentSize (bytesFor f codes body)
+  bytes-long : contentBytes (kindFor (f .content)) (countFor (f .content) body) ≡ contentSize (bytesFor f codes body)
   unfolding sizeFor
   bytes-long = omega (arith, long, codes-back)
 
   content-long : size (contentLines (rowFor (f .content)) (countFor (f .content) body)) ≡ 8 * contentSize (bytesFor f codes body)
   unfolding sizeFor
-  content-long = omega (arith, long, codes-back, column (formFor (f .content)) (countFor (f .content) body))
+  content-long = omega (arith, long, codes-back, column (kindFor (f .content)) (countFor (f .content) body))
 
   count-back : countOf (bytesFor f codes body) ≡ countFor (f .content) body
   unfolding countOf tableFor
   count-back =
       let c = f .content in
       let b = bytesFor f codes body in
-      let h = parts.packet-26 (rowFor c) (f .kind) (sizeFor f body) (f .codes) (countFor c body) (bits b) (ap (fine 26 (tableFor f body)) values ∙ clean .c26) in
-      ap (λ (g : Form). countIn (rowOf g) (bits b) (contentAt b) (contentSize b)) form-back
+      let h = parts.packet-26 (rowFor c) (f .typenumber) (sizeFor f body) (f .codes) (countFor c body) (bits b) (ap (fine 26 (tableFor f body)) values ∙ clean .c26) in
+      ap (λ (g : Kind). countIn (rowOf g) (bits b) (contentAt b) (contentSize b)) kind-back
       ∙ ap (λ (n : ℕ). countIn (rowFor c) (bits b) (24 + 96 * n) (contentSize b)) codes-back
       ∙ (contents.count-back c body (bits b) (24 + 96 * f .codes) (contentSize b) h content-long)
 
   table-back : tableOf (bytesFor f codes body) ≡ tableFor f body
   unfolding tableOf tableFor
-  table-back = rw (count-back, codes-back, form-back, kind-back, long)
+  table-back = rw (count-back, codes-back, kind-back, type-back, long)
 
   values-back : valuesIn (bytesFor f codes body) ≡ valuesFor f codes body
   values-back = ap (λ (T : List Line). decode T (bits (bytesFor f codes body)) 0) table-back ∙ values
@@ -158,7 +158,7 @@ module _ (f : Fields) (codes body : List ℕ) (a : Taken f codes body) (y : Fitt
       let c = f .content in
       let k = countFor c body in
       let l = bits (bytesFor f codes body) in
-      sym (parts.packet-flat (rowFor c) (f .kind) (sizeFor f body) (f .codes) k l ∙ rw (parts.content-flat (rowFor c) k l (24 + 96 * f .codes)))
+      sym (parts.packet-flat (rowFor c) (f .typenumber) (sizeFor f body) (f .codes) k l ∙ rw (parts.content-flat (rowFor c) k l (24 + 96 * f .codes)))
       ∙ ap (flat (tableFor f body)) values ∙ flat-fill (tableFor f body) (numbersFor f codes body) numbers-fit
 
   record Numbers : Type 0 where
@@ -190,21 +190,21 @@ module _ (f : Fields) (codes body : List ℕ) (a : Taken f codes body) (y : Fitt
   -- ---- its fields
   front-back : frontIn (bytesFor f codes body) ≡ frontFor (f .content) (f .digits)
   unfolding frontIn
-  front-back = rw (form-back, codes-back) (numbers .n-front)
+  front-back = rw (kind-back, codes-back) (numbers .n-front)
 
   back-back : backIn (bytesFor f codes body) ≡ backFor (f .content) (f .digits)
   unfolding backIn
-  back-back = rw (form-back, codes-back, count-back) (numbers .n-back)
+  back-back = rw (kind-back, codes-back, count-back) (numbers .n-back)
 
   body-back : bodyIn (bytesFor f codes body) ≡ body
   unfolding bodyIn
-  body-back = rw (form-back, codes-back, count-back) (numbers .n-body)
+  body-back = rw (kind-back, codes-back, count-back) (numbers .n-body)
 
   content-is : contentIn (bytesFor f codes body) ≡ f .content
   unfolding frontFor
   content-is =
       let c = f .content in
-      rw (form-back, front-back, count-back) (packet-contents.content-back c (take (digitsBefore c) (f .digits)) body)
+      rw (kind-back, front-back, count-back) (packet-contents.content-back c (take (digitsBefore c) (f .digits)) body)
 
   digits-is : padded 35 (digitsIn (bytesFor f codes body)) ≡ f .digits
   unfolding frontFor backFor
@@ -213,7 +213,7 @@ module _ (f : Fields) (codes body : List ℕ) (a : Taken f codes body) (y : Fitt
       let ds = f .digits in
       let u = digitsBefore c in
       let v = digitsAfter c in
-      let e : digitsIn (bytesFor f codes body) ≡ take (u + v) ds = rw (form-back, front-back, back-back) (ap (λ (l : List ℕ). l ++ take v ds) (drop-at (numbersOf c) (take u ds) (numbersIn (formFor c)) (packet-contents.numbers-long c)) ∙ one (one-place c)) in
+      let e : digitsIn (bytesFor f codes body) ≡ take (u + v) ds = rw (kind-back, front-back, back-back) (ap (λ (l : List ℕ). l ++ take v ds) (drop-at (numbersOf c) (take u ds) (numbersIn (kindFor c)) (packet-contents.numbers-long c)) ∙ one (one-place c)) in
       ap (padded 35) e ∙ padded-take (u + v) ds (y .digits-long) (contents.few-digits c) (a .digits-kept)
     where
       one : (digitsBefore (f .content) ≡ 0) ⊎ (digitsAfter (f .content) ≡ 0) → take (digitsBefore (f .content)) (f .digits) ++ take (digitsAfter (f .content)) (f .digits) ≡ take (digitsBefore (f .content) + digitsAfter (f .content)) (f .digits)
@@ -223,7 +223,7 @@ module _ (f : Fields) (codes body : List ℕ) (a : Taken f codes body) (y : Fitt
   -- what follows the content begins 74 bytes before the end
   end-at : 24 + 96 * f .codes + size (contentLines (rowFor (f .content)) (countFor (f .content) body)) ≡ 8 * (length (bytesFor f codes body) - 74)
   unfolding sizeFor
-  end-at = omega (arith, long, column (formFor (f .content)) (countFor (f .content) body))
+  end-at = omega (arith, long, column (kindFor (f .content)) (countFor (f .content) body))
 
   ending-is : at (bits (bytesFor f codes body)) (8 * (length (bytesFor f codes body) - 74)) 32
       ∷ (run (bits (bytesFor f codes body)) (8 * (length (bytesFor f codes body) - 70)) 12 4 ++ run (bits (bytesFor f codes body)) (8 * (length (bytesFor f codes body) - 64)) 64 8)
@@ -248,7 +248,7 @@ module _ (f : Fields) (codes body : List ℕ) (a : Taken f codes body) (y : Fitt
 
   fields-is : fieldsOf (bytesFor f codes body) ≡ f
   unfolding fieldsOf
-  fields-is = rw (content-is, digits-is, time-is, signed .0, signed .1, codes-back, kind-back)
+  fields-is = rw (content-is, digits-is, time-is, signed .0, signed .1, codes-back, type-back)
 
   -- ---- the reader's answer
   size-good : sizeBad (bytesFor f codes body) ≡ false
@@ -265,11 +265,11 @@ module _ (f : Fields) (codes body : List ℕ) (a : Taken f codes body) (y : Fitt
   unfolding lengthBad
   length-good =
       let b = bytesFor f codes body in
-      let e : contentBytes (formIn b) (countOf b) ≡ contentSize b = ap₂ contentBytes form-back count-back ∙ bytes-long in
+      let e : contentBytes (kindIn b) (countOf b) ≡ contentSize b = ap₂ contentBytes kind-back count-back ∙ bytes-long in
       ap not (eq-eqb _ _ e)
 
-  known-good : isUnknown (formIn (bytesFor f codes body)) ≡ false
-  known-good = ap (λ (t : ℕ). isUnknown (formOf t)) kind-back ∙ a .known
+  known-good : isUnknown (kindIn (bytesFor f codes body)) ≡ false
+  known-good = ap (λ (t : ℕ). isUnknown (kindOf t)) type-back ∙ a .known
 
   fine-good : (k : ℕ) → fine k (tableFor f body) (valuesFor f codes body) ≡ true → fine k (tableOf (bytesFor f codes body)) (valuesIn (bytesFor f codes body)) ≡ true
   fine-good k e = ap₂ (fine k) table-back values-back ∙ e
@@ -284,7 +284,7 @@ module _ (f : Fields) (codes body : List ℕ) (a : Taken f codes body) (y : Fitt
   -- ---- what is read
   pub opened-is : opened (bytesFor f codes body) ≡ asGiven f codes body
   unfolding opened codesOf
-  opened-is = rw (answer-is, fields-is, codes-back, numbers .n-codes, form-back, body-back)
+  opened-is = rw (answer-is, fields-is, codes-back, numbers .n-codes, kind-back, body-back)
 
   -- ---- the bytes of the content, as a part of the packet
   pub bytes-under : Under 256 (bytesFor f codes body)
@@ -297,13 +297,13 @@ module _ (f : Fields) (codes body : List ℕ) (a : Taken f codes body) (y : Fitt
       let c = f .content in
       let k = countFor c body in
       let m : k * size (rowFor c .each) ≡ k * 8 = ap (λ (x : ℕ). k * x) w in
-      omega (arith, long, content-size (rowFor c) k, column (formFor c) k, contents.fair (formFor c) .even1, m)
+      omega (arith, long, content-size (rowFor c) k, column (kindFor c) k, contents.fair (kindFor c) .even1, m)
 
-  pub body-is : bodyOf (bytesFor f codes body) ≡ cond (hasEntries (formFor (f .content))) [] body
+  pub body-is : bodyOf (bytesFor f codes body) ≡ cond (hasEntries (kindFor (f .content))) [] body
   unfolding bodyOf
-  body-is = rw (answer-is, form-back, codes-back, count-back) (by (packet-contents.repeated (formFor (f .content))))
+  body-is = rw (answer-is, kind-back, codes-back, count-back) (by (packet-contents.repeated (kindFor (f .content))))
     where
-      by : packet-contents.Repeated (formFor (f .content)) → take (cond (hasEntries (formFor (f .content))) 0 (countFor (f .content) body)) (drop (3 + 12 * f .codes + partAt (rowFor (f .content)) / 8) (bytesFor f codes body)) ≡ cond (hasEntries (formFor (f .content))) [] body
+      by : packet-contents.Repeated (kindFor (f .content)) → take (cond (hasEntries (kindFor (f .content))) 0 (countFor (f .content) body)) (drop (3 + 12 * f .codes + partAt (rowFor (f .content)) / 8) (bytesFor f codes body)) ≡ cond (hasEntries (kindFor (f .content))) [] body
       by (packet-contents.entries e q) = rw e
       by (packet-contents.nothing e h z) = rw (e, z _ (length body)) (sym (fitting.nil-of body (body-long ∙ ap (λ (x : ℕ). x * need (rowFor (f .content) .each)) (z _ (length body)) ∙ zero-mul (need (rowFor (f .content) .each)))))
       by (packet-contents.octet e h) =
@@ -311,7 +311,7 @@ module _ (f : Fields) (codes body : List ℕ) (a : Taken f codes body) (y : Fitt
           let b = bytesFor f codes body in
           let k = countFor c body in
           let s = 3 + 12 * f .codes + partAt (rowFor c) / 8 in
-          let g = contents.fair (formFor c) in
+          let g = contents.fair (kindFor c) in
           let p : 24 + 96 * f .codes + partAt (rowFor c) ≡ 8 * s = omega (arith, g .even1) in
           let w : size (rowFor c .each) ≡ 8 = ap size h ∙ octet-size in
           let i : s + k ≤ length b = body-inside w in

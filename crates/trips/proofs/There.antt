@@ -12,8 +12,8 @@ use Rattle.laws.proofs.Cases.{if-yes, if-no}
 use Rattle.laws.proofs.Elements.{by-test}
 use Rattle.packet.specs.declared.Fields.{Fields}
 use Rattle.packet.specs.declared.Opened.{Opened}
-use Rattle.packet.specs.Table.{formOf}
-use Rattle.packet.specs.Content.{formFor}
+use Rattle.packet.specs.Table.{kindOf}
+use Rattle.packet.specs.Content.{kindFor}
 use Rattle.packet.specs.Reading.{hasEntries, opened, bodyOf}
 use Rattle.packet.specs.Writing.{sizeFor, bytesFor, writtenAnswer, writtenBy, written, packetOutput}
 use Rattle.trips.specs.Given.{Typed, packetOf, GivesBack}
@@ -41,7 +41,7 @@ packet-is f codes body out t e =
 -- where it is one.
 pub fields-come-back : (f : Fields) (codes body out : List ℕ) → Typed f body → written f codes body (length out) .answer ≡ 0
     → GivesBack f codes body (packetOf f codes body out)
-unfolding formOf
+unfolding kindOf
 fields-come-back f codes body out t e =
     let a = taken f codes body (length out) (sym (write-answer f codes body (length out)) ∙ e) in
     let y = fitted f codes body t a in
@@ -49,13 +49,13 @@ fields-come-back f codes body out t e =
     let r = ap opened w ∙ opened-is f codes body a y in
     let b = ap bodyOf w ∙ body-is f codes body a y in
     let p = packetOf f codes body out in
-    let k : opened p .fields .kind ≡ f .kind = ap (λ (o : Opened). o .fields .kind) r in
+    let k : opened p .fields .typenumber ≡ f .typenumber = ap (λ (o : Opened). o .fields .typenumber) r in
     let text = text-of-packet p (ap (λ (o : Opened). o .answer) r) in
-    by-test (eqb (f .kind) 15)
+    by-test (eqb (f .typenumber) 15)
     (λ h.
     let x = text .0 (k ∙ eqb-true _ _ h) in
-    let form : hasEntries (formFor (f .content)) ≡ false = ap hasEntries (sym (a .form) ∙ ap formOf (eqb-true (f .kind) 15 h)) in
-    record { all-read = r; body-part = b; text-number = x .0 ∙ sym (if-yes 0 27 h); text-part = x .1 ∙ b ∙ if-no [] body form ∙ sym (if-yes body [] h) })
+    let kind : hasEntries (kindFor (f .content)) ≡ false = ap hasEntries (sym (a .kind) ∙ ap kindOf (eqb-true (f .typenumber) 15 h)) in
+    record { all-read = r; body-part = b; text-number = x .0 ∙ sym (if-yes 0 27 h); text-part = x .1 ∙ b ∙ if-no [] body kind ∙ sym (if-yes body [] h) })
     (λ h.
     let x = text .1 (λ z. eqb-false _ _ h (sym k ∙ z)) in
     record { all-read = r; body-part = b; text-number = x .0 ∙ sym (if-no 0 27 h); text-part = x .1 ∙ sym (if-no body [] h) })

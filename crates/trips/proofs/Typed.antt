@@ -23,7 +23,7 @@ use Rattle.packet.specs.Content.{countFor}
 use Rattle.packet.specs.Writing.{rowFor, frontFor, backFor, bodyFor, sizeFor, tableFor, numbersFor, valuesFor}
 use Rattle.trips.proofs.Contents as contents
 use Rattle.trips.proofs.Contents.{byteLine}
-use Rattle.packet.specs.Content.{formFor}
+use Rattle.packet.specs.Content.{kindFor}
 use Rattle.trips.specs.Given.{held, Typed}
 use Rattle.trips.proofs.Parts as parts
 use Rattle.trips.proofs.Taken.{Taken, Fitted, lent-long, front-long, back-long, whole-body, code-unmet}
@@ -38,16 +38,16 @@ unfolding all fine fill
 fine-bytes [] xs h u = refl
 fine-bytes (t ∷ ts) xs h u =
     let a = and-both (byteLine t) (all byteLine ts) h in
-    and-yes _ (line (eqb (t .other) 0) refl (a .0)) ∙ fine-bytes ts (drop (own t) xs) (a .1) (under-drop 256 (own t) xs u)
+    and-yes _ (line (eqb (t .answer) 0) refl (a .0)) ∙ fine-bytes ts (drop (own t) xs) (a .1) (under-drop 256 (own t) xs u)
   where
-    line : (z : Bool) → eqb (t .other) 0 ≡ z → byteLine t ≡ true → lineOk 0 t (cond (t .free) (take (t .n) xs) (replicate (t .n) (t .lo))) ≡ true
-    line false e g = if-no (inside (t .lo) (t .hi) (cond (t .free) (take (t .n) xs) (replicate (t .n) (t .lo)))) true e
+    line : (z : Bool) → eqb (t .answer) 0 ≡ z → byteLine t ≡ true → lineOk 0 t (cond (t .given) (take (t .count) xs) (replicate (t .count) (t .lo))) ≡ true
+    line false e g = if-no (inside (t .lo) (t .hi) (cond (t .given) (take (t .count) xs) (replicate (t .count) (t .lo)))) true e
     line true e g =
-        let g1 : (eqb (t .lo) 0 && (eqb (t .hi) 255 && t .free)) ≡ true = rw e at g in
-        let g2 = and-both (eqb (t .lo) 0) (eqb (t .hi) 255 && t .free) g1 in
-        let g3 = and-both (eqb (t .hi) 255) (t .free) (g2 .1) in
-        if-yes (inside (t .lo) (t .hi) (cond (t .free) (take (t .n) xs) (replicate (t .n) (t .lo)))) true e
-        ∙ rw (eqb-true (t .lo) 0 (g2 .0), eqb-true (t .hi) 255 (g3 .0), g3 .1) (bytes-inside (take (t .n) xs) (under-take 256 (t .n) xs u))
+        let g1 : (eqb (t .lo) 0 && (eqb (t .hi) 255 && t .given)) ≡ true = rw e at g in
+        let g2 = and-both (eqb (t .lo) 0) (eqb (t .hi) 255 && t .given) g1 in
+        let g3 = and-both (eqb (t .hi) 255) (t .given) (g2 .1) in
+        if-yes (inside (t .lo) (t .hi) (cond (t .given) (take (t .count) xs) (replicate (t .count) (t .lo)))) true e
+        ∙ rw (eqb-true (t .lo) 0 (g2 .0), eqb-true (t .hi) 255 (g3 .0), g3 .1) (bytes-inside (take (t .count) xs) (under-take 256 (t .count) xs u))
 
 front-held : (c : Content) (ds : List ℕ) → held c ≡ true → fine 0 (rowFor c .before) (fill (rowFor c .before) (frontFor c ds)) ≡ true
 unfolding fine fill frontFor inside need
@@ -82,12 +82,12 @@ bits-held f codes body a y =
     let fl = front-long c (f .digits) (y .digits-long) in
     let yl : length (F ++ (b ++ K)) ≡ need (contentLines r k) = length-append F (b ++ K) ∙ omega (arith, length-append b K, fl, bl, back-long c (f .digits) (y .digits-long), parts.content-need r k) in
     let re : F ++ (b ++ (K ++ z)) ≡ (F ++ (b ++ K)) ++ z = sym (append-assoc F (b ++ K) z ∙ ap (λ (l : List ℕ). F ++ l) (append-assoc b K z)) in
-    let v = ap (λ (l : List ℕ). fill (packet r (f .kind) (sizeFor f body) (f .codes) k) (codes ++ l)) re ∙ parts.packet-fill r (f .kind) (sizeFor f body) (f .codes) k codes (F ++ (b ++ K)) z (a .codes-long) yl in
+    let v = ap (λ (l : List ℕ). fill (packet r (f .typenumber) (sizeFor f body) (f .codes) k) (codes ++ l)) re ∙ parts.packet-fill r (f .typenumber) (sizeFor f body) (f .codes) k codes (F ++ (b ++ K)) z (a .codes-long) yl in
     let ub : Under 256 b = rw (whole a) (y .body-held) in
-    let rows = fine-bytes (times k (r .each)) b (all-times byteLine k (r .each) (contents.fair (formFor c) .bytes)) ub in
-    let cont = parts.content-fine 0 r k F b K fl bl (front-held c (f .digits) (y .content-held)) (parts.all-count (unmet 0) (r .sort) k refl) rows (unmet-fine 0 (r .after) (fill (r .after) K) (contents.fair (formFor c) .after)) in
-    ap (fine 0 (packet r (f .kind) (sizeFor f body) (f .codes) k)) v
-    ∙ parts.packet-fine 0 r (f .kind) (sizeFor f body) (f .codes) k codes (F ++ (b ++ K)) z refl (unmet-fine 0 (times (f .codes) code) (fill (times (f .codes) code) codes) (all-times (unmet 0) (f .codes) code code-unmet)) cont (ending-held (f .time) (f .certificate) (f .signature) (y .time-held) (y .certificate-long) (y .signature-long) (y .signature-held))
+    let rows = fine-bytes (times k (r .each)) b (all-times byteLine k (r .each) (contents.fair (kindFor c) .bytes)) ub in
+    let cont = parts.content-fine 0 r k F b K fl bl (front-held c (f .digits) (y .content-held)) (parts.all-count (unmet 0) (r .counting) k refl) rows (unmet-fine 0 (r .after) (fill (r .after) K) (contents.fair (kindFor c) .after)) in
+    ap (fine 0 (packet r (f .typenumber) (sizeFor f body) (f .codes) k)) v
+    ∙ parts.packet-fine 0 r (f .typenumber) (sizeFor f body) (f .codes) k codes (F ++ (b ++ K)) z refl (unmet-fine 0 (times (f .codes) code) (fill (times (f .codes) code) codes) (all-times (unmet 0) (f .codes) code code-unmet)) cont (ending-held (f .time) (f .certificate) (f .signature) (y .time-held) (y .certificate-long) (y .signature-long) (y .signature-held))
   where
     whole : Taken f codes body → bodyFor (f .content) body ≡ body
     whole a = whole-body (f .content) body (lent-long (f .content) body (a .lent) (a .body-kept))

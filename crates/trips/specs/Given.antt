@@ -11,7 +11,7 @@ use Rattle.packet.specs.declared.Content.{Content}
 use Rattle.packet.specs.declared.Content.the-variants as content
 use Rattle.packet.specs.declared.Fields.{Fields}
 use Rattle.packet.specs.declared.Opened.{Opened}
-use Rattle.packet.specs.Content.{formFor, countFor}
+use Rattle.packet.specs.Content.{kindFor, countFor}
 use Rattle.packet.specs.Reading.{zeros, padded, hasEntries, opened, bodyOf, textAnswer, textOf}
 use Rattle.packet.specs.Writing.{written, packetOutput}
 
@@ -47,14 +47,14 @@ packetOf f codes body out = take (written f codes body (length out) .length) (pa
 -- what `read` gives for fields, codes and a body: these, with zeros after the codes, and after the entries where there are any
 abbrev pub asGiven : Fields → List ℕ → List ℕ → Opened
 asGiven f codes body =
-    record { answer = 0; fields = f; codes = padded 322 codes; entries = padded 272 (cond (hasEntries (formFor (f .content))) body []) }
+    record { answer = 0; fields = f; codes = padded 322 codes; entries = padded 272 (cond (hasEntries (kindFor (f .content))) body []) }
 
 -- the reader's functions give them back of a packet: read, body and text, the last for type 15 alone
 pub record GivesBack (f : Fields) (codes body packet : List ℕ) : Type 0 where
   pub all-read : opened packet ≡ asGiven f codes body
-  pub body-part : bodyOf packet ≡ cond (hasEntries (formFor (f .content))) [] body
-  pub text-number : textAnswer packet ≡ cond (eqb (f .kind) 15) 0 27
-  pub text-part : textOf packet ≡ cond (eqb (f .kind) 15) body []
+  pub body-part : bodyOf packet ≡ cond (hasEntries (kindFor (f .content))) [] body
+  pub text-number : textAnswer packet ≡ cond (eqb (f .typenumber) 15) 0 27
+  pub text-part : textOf packet ≡ cond (eqb (f .typenumber) 15) body []
 
 -- ---- from a reader to a writer (demand 2)
 -- what is lent of the codes: as many digits as there are codes
@@ -63,7 +63,7 @@ lentCodes o = take (o .fields .codes * 23) (o .codes)
 
 -- and for the content: the entries, or the part that is the body
 abbrev pub lentBody : Opened → List ℕ → List ℕ
-lentBody o part = cond (hasEntries (formFor (o .fields .content))) (take (countFor (o .fields .content) [] * 8) (o .entries)) part
+lentBody o part = cond (hasEntries (kindFor (o .fields .content))) (take (countFor (o .fields .content) [] * 8) (o .entries)) part
 
 -- ---- what is never judged (01, What travels): time and signature
 -- two packets that differ in nothing else: 74 bytes from the end stands the time, 70 the certificate, 64 the signature
@@ -75,7 +75,7 @@ pub record Alike (b c : List ℕ) : Type 0 where
 -- fields with this time and this signature
 abbrev pub signed : Fields → ℕ → List ℕ → Fields
 signed f time signature =
-    record { kind = f .kind; codes = f .codes; content = f .content; digits = f .digits; time = time; certificate = f .certificate; signature = signature }
+    record { typenumber = f .typenumber; codes = f .codes; content = f .content; digits = f .digits; time = time; certificate = f .certificate; signature = signature }
 
 -- what is opened, but for time and signature
 abbrev pub unsigned : Opened → Opened

@@ -12,11 +12,11 @@ use Rattle.packet.specs.declared.Fields.{Fields}
 use Rattle.packet.specs.Writing.{sizeFor, notWritten, countBad, digitBad, notTaken, writeCases, writtenAnswer}
 
 module _ (f : Fields) (codes body : List ℕ) (room : ℕ) where
-  pub says-23 : notWritten (f .kind) ≡ true → 23 ≡ writtenAnswer f codes body room
+  pub says-23 : notWritten (f .typenumber) ≡ true → 23 ≡ writtenAnswer f codes body room
   unfolding writtenAnswer
   says-23 e = sym (stop _ _ e)
 
-  module _ (u : notWritten (f .kind) ≡ false) where
+  module _ (u : notWritten (f .typenumber) ≡ false) where
     pub says-26 : countBad f codes body ≡ true → 26 ≡ writtenAnswer f codes body room
     unfolding writtenAnswer
     says-26 e = sym (pass _ _ u ∙ stop _ _ e)

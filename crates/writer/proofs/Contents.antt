@@ -10,7 +10,7 @@ use lib.Seq.{length-take-le, take-take, take-all, take-append-add}
 use Rattle.laws.specs.Bits.{bitsOf, spread}
 use Rattle.format.specs.Format.{octets, size, need, encode, fill, times}
 use Rattle.packet.specs.declared.Content.{Content}
-use Rattle.packet.specs.Content.{partsOf, formFor, numbersOf, countFor}
+use Rattle.packet.specs.Content.{partsOf, kindFor, numbersOf, countFor}
 use Rattle.packet.specs.Reading.{hasEntries}
 use Rattle.packet.proofs.Good.{good}
 use Rattle.packet.proofs.Contents.{numbers-long, Repeated, entries, octet, nothing, repeated}
@@ -22,7 +22,7 @@ use Rattle.writer.proofs.Rows.{same-fill}
 -- a content has numbers for its first lines, and the digits make up the rest
 pub numbers-fit : (c : Content) → (length (numbersOf c) ≤ need (rowFor c .before)) × (need (rowFor c .before) ≤ length (numbersOf c) + 35) × (length (numbersOf c) ≤ 6)
 numbers-fit c =
-    let g = good (formFor c) in
+    let g = good (kindFor c) in
     let e = numbers-long c in
     (omega (arith, e, g .numbered), omega (arith, e, g .digits), omega (arith, e, g .few))
 
@@ -42,7 +42,7 @@ module _ (c : Content) (ds : List ℕ) (d : length ds ≡ 35) where
 
   pub length-back : length (backFor c ds) ≡ need (rowFor c .after)
   unfolding backFor
-  length-back = length-take-le (need (rowFor c .after)) ds (omega (arith, good (formFor c) .last))
+  length-back = length-take-le (need (rowFor c .after)) ds (omega (arith, good (kindFor c) .last))
 
   -- the array that the code has begins with them
   pub front-fill : (r : List ℕ) → Fronted c ds r → fill (rowFor c .before) r ≡ fill (rowFor c .before) (frontFor c ds)
@@ -61,7 +61,7 @@ module _ (c : Content) (ds : List ℕ) (d : length ds ≡ 35) where
   unfolding backFor
   back-fill r e l =
       let n = need (rowFor c .after) in
-      let h : n ≤ 35 = omega (arith, good (formFor c) .last) in
+      let h : n ≤ 35 = omega (arith, good (kindFor c) .last) in
       same-fill (rowFor c .after) r (take n ds) (omega arith) (omega (arith, length-take-le n ds (omega arith)))
       (sym (take-take n 35 r h) ∙ ap (take n) (e ∙ take-all 35 ds (omega arith)) ∙ sym (take-take n n ds (omega arith)))
 
@@ -100,10 +100,10 @@ bytes-put c body h r =
     (rw (body-whole c body h, r) (octet-rows (countFor c body) body l), rw r (omega arith), omega arith)
 
 -- or nothing too
-pub octets-body : (c : Content) (body : List ℕ) → Lent c body → hasEntries (formFor c) ≡ false → (spread 8 body ≡ bodyBits c body) × (8 * length body ≡ bodySize c body) × (length body ≤ 255)
-octets-body c body h n = by (repeated (formFor c))
+pub octets-body : (c : Content) (body : List ℕ) → Lent c body → hasEntries (kindFor c) ≡ false → (spread 8 body ≡ bodyBits c body) × (8 * length body ≡ bodySize c body) × (length body ≤ 255)
+octets-body c body h n = by (repeated (kindFor c))
   where
-    by : Repeated (formFor c) → (spread 8 body ≡ bodyBits c body) × (8 * length body ≡ bodySize c body) × (length body ≤ 255)
+    by : Repeated (kindFor c) → (spread 8 body ≡ bodyBits c body) × (8 * length body ≡ bodySize c body) × (length body ≤ 255)
     by (entries e s) = absurd (true≢false (sym e ∙ n))
     by (octet e r) = bytes-put c body h r
     by (nothing e r z) = empty c body h (z (partsOf c .count) (length body))

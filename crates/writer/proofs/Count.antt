@@ -10,7 +10,7 @@ use Rattle.laws.proofs.Cases.{if-yes}
 use Rattle.format.specs.Format.{just, size, encode, fill}
 use Rattle.format.specs.Reach.{fieldBits, fieldsBits}
 use Rattle.format.proofs.Leaves.{reached}
-use Rattle.packet.specs.declared.Sort.{Sort}
+use Rattle.packet.specs.declared.Counting.{Counting}
 use Rattle.packet.specs.Table.{countLine}
 use Rattle.writer.specs.Puts.{After}
 
@@ -19,7 +19,7 @@ pub none-put : (out : List ℕ) (p : ℕ) → After out out p [] p 0
 none-put out p = record { put = refl; place = omega arith }
 
 -- contents with no count
-pub no-count : (out : List ℕ) (p k : ℕ) (s : Sort) → countLine s k ≡ [] → After out out p (encode (countLine s k) (fill (countLine s k) [])) p (size (countLine s k))
+pub no-count : (out : List ℕ) (p k : ℕ) (s : Counting) → countLine s k ≡ [] → After out out p (encode (countLine s k) (fill (countLine s k) [])) p (size (countLine s k))
 unfolding encode size
 no-count out p k s e = rw e (none-put out p)
 

@@ -9,8 +9,8 @@ use Rattle.laws.proofs.Cases.{and-yes}
 use Rattle.format.specs.declared.Line.{Line}
 use Rattle.format.specs.Format.{just, need, fill, times, inside, fine}
 use Rattle.format.proofs.Tables.{fill-join, fine-join, length-fill, need-times}
-use Rattle.packet.specs.declared.Sort.{Sort}
-use Rattle.packet.specs.declared.Sort.the-variants as sort
+use Rattle.packet.specs.declared.Counting.{Counting}
+use Rattle.packet.specs.declared.Counting.the-variants as counting
 use Rattle.packet.specs.declared.Content.{Content}
 use Rattle.packet.specs.declared.Fields.{Fields}
 use Rattle.packet.specs.Table.{code, ending, packet, contentLines, countLine}
@@ -40,16 +40,16 @@ pub data Class : ℕ → Type 0 where
   digit : Class 25
   range : Class 27
 
-count-fine : {a : ℕ} → Class a → (s : Sort) (k : ℕ) (xs : List ℕ) → fine a (countLine s k) (fill (countLine s k) xs) ≡ true
+count-fine : {a : ℕ} → Class a → (s : Counting) (k : ℕ) (xs : List ℕ) → fine a (countLine s k) (fill (countLine s k) xs) ≡ true
 unfolding fine fill
-count-fine digit sort.Fixed k xs = refl
-count-fine digit sort.Counted k xs = refl
-count-fine digit sort.Raw k xs = refl
-count-fine digit sort.Unknown k xs = refl
-count-fine range sort.Fixed k xs = refl
-count-fine range sort.Counted k xs = refl
-count-fine range sort.Raw k xs = refl
-count-fine range sort.Unknown k xs = refl
+count-fine digit counting.Fixed k xs = refl
+count-fine digit counting.Counted k xs = refl
+count-fine digit counting.Raw k xs = refl
+count-fine digit counting.Unknown k xs = refl
+count-fine range counting.Fixed k xs = refl
+count-fine range counting.Counted k xs = refl
+count-fine range counting.Raw k xs = refl
+count-fine range counting.Unknown k xs = refl
 
 head-fine : {a : ℕ} → Class a → (ts : List Line) (xs : List ℕ) (kind p n : ℕ) → fine a (just 5 kind ∷ just 11 p ∷ just 8 n ∷ ts) (fill (just 5 kind ∷ just 11 p ∷ just 8 n ∷ ts) xs) ≡ fine a ts (fill ts xs)
 unfolding fine fill
@@ -72,10 +72,10 @@ module _ (f : Fields) (codes body : List ℕ) (h : Counts f codes body) (d : len
   content-fine : {a : ℕ} → Class a → fine a (linesFor c body) (fill (linesFor c body) middle) ≡ (frontFine a c (f .digits) && (rowsFine a c body && backFine a c (f .digits)))
   unfolding contentLines
   content-fine {a} q =
-      two-fine a (rowFor c .before) (countLine (rowFor c .sort) k ++ (times k (rowFor c .each) ++ rowFor c .after)) (frontFor c (f .digits)) (bodyFor c body ++ backFor c (f .digits)) (length-front c (f .digits) d)
+      two-fine a (rowFor c .before) (countLine (rowFor c .counting) k ++ (times k (rowFor c .each) ++ rowFor c .after)) (frontFor c (f .digits)) (bodyFor c body ++ backFor c (f .digits)) (length-front c (f .digits) d)
       ∙ ap (λ (b : Bool). frontFine a c (f .digits) && b)
-      (two-fine a (countLine (rowFor c .sort) k) (times k (rowFor c .each) ++ rowFor c .after) [] (bodyFor c body ++ backFor c (f .digits)) (sym (count-needs (rowFor c .sort) k))
-      ∙ and-yes _ (count-fine q (rowFor c .sort) k [])
+      (two-fine a (countLine (rowFor c .counting) k) (times k (rowFor c .each) ++ rowFor c .after) [] (bodyFor c body ++ backFor c (f .digits)) (sym (count-needs (rowFor c .counting) k))
+      ∙ and-yes _ (count-fine q (rowFor c .counting) k [])
       ∙ two-fine a (times k (rowFor c .each)) (rowFor c .after) (bodyFor c body) (backFor c (f .digits)) (h .bodied ∙ sym (need-times k (rowFor c .each))))
 
   pub packet-fine : {a : ℕ} → Class a → fine a (tableFor f body) (valuesFor f codes body)
@@ -83,7 +83,7 @@ module _ (f : Fields) (codes body : List ℕ) (h : Counts f codes body) (d : len
   unfolding tableFor packet
   packet-fine {a} q =
       ap (λ (xs : List ℕ). fine a (tableFor f body) (fill (tableFor f body) xs)) (in-order f codes body h d lc ls)
-      ∙ head-fine q (times (f .codes) code ++ (linesFor c body ++ ending)) (codes ++ (middle ++ tail)) (f .kind) _ (f .codes)
+      ∙ head-fine q (times (f .codes) code ++ (linesFor c body ++ ending)) (codes ++ (middle ++ tail)) (f .typenumber) _ (f .codes)
       ∙ two-fine a (times (f .codes) code) (linesFor c body ++ ending) codes (middle ++ tail) (h .coded ∙ sym (need-times (f .codes) code ∙ ap (λ (n : ℕ). f .codes * n) code-need))
       ∙ ap (λ (b : Bool). fine a (times (f .codes) code) (fill (times (f .codes) code) codes) && b)
       (two-fine a (linesFor c body) ending middle tail (middle-long f codes body h d lc ls) ∙ ap (λ (b : Bool). b && fine a ending (fill ending tail)) (content-fine q))

@@ -7,8 +7,8 @@ use native.Mathlib.Omega.{arith}
 use lib.ListN.{length, getD, set, take, length-set}
 use lib.Seq.{take-take, take-suc, take-suc-set, take-all}
 use Rattle.packet.specs.declared.Content.{Content}
-use Rattle.packet.specs.declared.Form.{Form}
-use Rattle.packet.specs.Content.{partsOf, formFor, numbersOf}
+use Rattle.packet.specs.declared.Kind.{Kind}
+use Rattle.packet.specs.Content.{partsOf, kindFor, numbersOf}
 use Rattle.writer.specs.declared.content.Laid.{Laid}
 use Rattle.writer.specs.Laying.{LaidOut}
 use Rattle.writer.specs.Puts.{Numbered, Fronted}
@@ -58,7 +58,7 @@ fronted c numbers ds r n h e f =
     }
 
 -- a content laid out with such numbers
-pub laid-by : (c : Content) (r : Laid) (kind : Form) (n count : ℕ) (xs l : List ℕ) → (r .kind ≡ kind) × (r .n ≡ n) × (r .numbers ≡ xs) × (r .count ≡ count)
-    → take 6 xs ≡ l → length xs ≡ 41 → kind ≡ formFor c → n ≡ length (numbersOf c) → take (length (numbersOf c)) l ≡ numbersOf c → length (numbersOf c) ≤ 6 → count ≡ partsOf c .count → LaidOut c r
+pub laid-by : (c : Content) (r : Laid) (kind : Kind) (n count : ℕ) (xs l : List ℕ) → (r .kind ≡ kind) × (r .n ≡ n) × (r .numbers ≡ xs) × (r .count ≡ count)
+    → take 6 xs ≡ l → length xs ≡ 41 → kind ≡ kindFor c → n ≡ length (numbersOf c) → take (length (numbersOf c)) l ≡ numbersOf c → length (numbersOf c) ≤ 6 → count ≡ partsOf c .count → LaidOut c r
 laid-by c r kind n count xs l g e m k i f h q =
     record { kind = g .0 ∙ k; many = g .1 ∙ i; numbers = subst (λ (ys : List ℕ). Numbered c ys) (sym (g .2)) (numbered-by c xs l e m f h); count = g .3 ∙ q }

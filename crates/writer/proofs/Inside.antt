@@ -37,7 +37,7 @@ unfolding inside
 inside-end xs lo hi j h = rw (drop-of-length-le xs h)
 
 -- ---- the numbers of a line, x being the j-th
-module _ (t : Line) (xs : List ℕ) (i : ℕ) (h : i + own t ≤ length xs) (j x : ℕ) (k : j < t .n) (e : x ≡ cond (t .free) (getD xs (i + j) 0) (t .lo)) where
+module _ (t : Line) (xs : List ℕ) (i : ℕ) (h : i + own t ≤ length xs) (j x : ℕ) (k : j < t .count) (e : x ≡ cond (t .given) (getD xs (i + j) 0) (t .lo)) where
   here : x ≡ getD (valueOf t (drop i xs)) j 0
   here = e ∙ number-at t xs i h j k
 

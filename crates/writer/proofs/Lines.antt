@@ -61,7 +61,7 @@ module _ (ls : List Line) (m j : ℕ) (n : length ls ≡ 6) (h : m ≤ 6) (k : j
       record { good = s .0; fits = omega arith }
 
   pub going-turn : (out₀ : List ℕ) (p : ℕ) (xs out last : List ℕ) (q i w v : ℕ) → Going out₀ p xs m ls out q i j
-      → bits last ≡ sets (bits out) q (spread (this .w) (valueOf this (drop i xs))) → w ≡ this .n * this .w → v ≡ own this → Going out₀ p xs m ls last (q + w) (i + v) (j + 1)
+      → bits last ≡ sets (bits out) q (spread (this .width) (valueOf this (drop i xs))) → w ≡ this .count * this .width → v ≡ own this → Going out₀ p xs m ls last (q + w) (i + v) (j + 1)
   unfolding all need size encode fill
   going-turn out₀ p xs out last q i w v g e ew ev =
       let s = and-both (sound this) (all sound (drop (j + 1) (front m ls))) (ap (all sound) (sym cons) ∙ g .lines) in
@@ -69,23 +69,23 @@ module _ (ls : List Line) (m j : ℕ) (n : length ls ≡ 6) (h : m ≤ 6) (k : j
       let a = z .area in
       let t = turn-asks out₀ p xs out q i g in
       let nd : need (drop j (front m ls)) ≡ own this + need (drop (j + 1) (front m ls)) = ap need cons in
-      let sz : size (drop j (front m ls)) ≡ this .n * this .w + size (drop (j + 1) (front m ls)) = ap size cons in
+      let sz : size (drop j (front m ls)) ≡ this .count * this .width + size (drop (j + 1) (front m ls)) = ap size cons in
       let r = g .room in
       let y = g .sizes in
       let pl = g .place in
-      let lv : length (spread (this .w) (valueOf this (drop i xs))) ≡ this .n * this .w = length-spread (this .w) (valueOf this (drop i xs)) ∙ ap (λ (x : ℕ). x * this .w) (length-value this xs i (t .fits)) in
-      let q′ : q + length (spread (this .w) (valueOf this (drop i xs))) ≡ q + w = omega arith in
+      let lv : length (spread (this .width) (valueOf this (drop i xs))) ≡ this .count * this .width = length-spread (this .width) (valueOf this (drop i xs)) ∙ ap (λ (x : ℕ). x * this .width) (length-value this xs i (t .fits)) in
+      let q′ : q + length (spread (this .width) (valueOf this (drop i xs))) ≡ q + w = omega arith in
       record {
         within = omega arith;
         place = omega arith;
-        kept = same-long last out q (spread (this .w) (valueOf this (drop i xs))) e ∙ g .kept;
+        kept = same-long last out q (spread (this .width) (valueOf this (drop i xs))) e ∙ g .kept;
         lines = s .1;
         room = omega arith;
         sizes = omega arith;
         rest =
             g .rest
             ∙ ap (λ (ts : List Line). sets (bits out) q (encode ts (fill ts (drop i xs)))) cons
-            ∙ sets-append (spread (this .w) (valueOf this (drop i xs))) (encode (drop (j + 1) (front m ls)) (fill (drop (j + 1) (front m ls)) (drop (own this) (drop i xs)))) (bits out) q
+            ∙ sets-append (spread (this .width) (valueOf this (drop i xs))) (encode (drop (j + 1) (front m ls)) (fill (drop (j + 1) (front m ls)) (drop (own this) (drop i xs)))) (bits out) q
             ∙ ap₂ (λ (l : List ℕ) (x : ℕ). sets l x (encode (drop (j + 1) (front m ls)) (fill (drop (j + 1) (front m ls)) (drop (own this) (drop i xs))))) (sym e) q′
             ∙ ap (λ (ys : List ℕ). sets (bits last) (q + w) (encode (drop (j + 1) (front m ls)) (fill (drop (j + 1) (front m ls)) ys))) (drop-drop (own this) i xs ∙ ap (λ (x : ℕ). drop (i + x) xs) (sym ev));
       }

@@ -52,8 +52,8 @@ pub encode-size : (ts : List Line) (xs : List ℕ) → need ts ≤ length xs →
 unfolding encode fill size need
 encode-size [] xs h = refl
 encode-size (t ∷ ts) xs h =
-    length-append (spread (t .w) (valueOf t xs)) (encode ts (fill ts (drop (own t) xs)))
-    ∙ ap₂ _+_ (length-spread (t .w) (valueOf t xs) ∙ ap (λ (n : ℕ). n * t .w) (length-value t xs 0 (omega arith)))
+    length-append (spread (t .width) (valueOf t xs)) (encode ts (fill ts (drop (own t) xs)))
+    ∙ ap₂ _+_ (length-spread (t .width) (valueOf t xs) ∙ ap (λ (n : ℕ). n * t .width) (length-value t xs 0 (omega arith)))
     (encode-size ts (drop (own t) xs) (omega (arith, length-drop (own t) xs)))
 
 -- ---- rows

@@ -12,9 +12,9 @@ use Rattle.laws.specs.Scan.{all}
 use Rattle.format.specs.Format.{fill, times, inside, fine, unmet}
 use Rattle.format.proofs.Tables.{unmet-fine, all-times}
 use Rattle.packet.specs.declared.Content.{Content}
-use Rattle.packet.specs.declared.Form.{Form}
+use Rattle.packet.specs.declared.Kind.{Kind}
 use Rattle.packet.specs.Table.{code, ending, rowOf}
-use Rattle.packet.specs.Content.{formFor, countFor}
+use Rattle.packet.specs.Content.{kindFor, countFor}
 use Rattle.packet.specs.Reading.{hasEntries}
 use Rattle.packet.specs.Writing.{rowFor}
 use Rattle.packet.proofs.Good.{good}
@@ -47,7 +47,7 @@ unfolding all
 codes-range n vs = unmet-fine 27 (times n code) vs (all-times (unmet 27) n code refl)
 
 -- ---- what is repeated: only entries are tested
-untested : {a : ℕ} → Class a → (f : Form) → hasEntries f ≡ false → all (unmet a) (rowOf f .each) ≡ true
+untested : {a : ℕ} → Class a → (f : Kind) → hasEntries f ≡ false → all (unmet a) (rowOf f .each) ≡ true
 untested q f n =
     let b = and-both (all (unmet 25) (rowOf f .each)) (all (unmet 27) (rowOf f .each)) (sym (or-no _ n) ∙ good f .octets-pass) in
     by q (b .0) (b .1)
@@ -56,8 +56,8 @@ untested q f n =
     by digit x y = x
     by range x y = y
 
-pub rows-untested : {a : ℕ} → Class a → (c : Content) (body : List ℕ) → hasEntries (formFor c) ≡ false → rowsFine a c body ≡ true
-rows-untested {a} q c body n = unmet-fine a (times (countFor c body) (rowFor c .each)) _ (all-times (unmet a) (countFor c body) (rowFor c .each) (untested q (formFor c) n))
+pub rows-untested : {a : ℕ} → Class a → (c : Content) (body : List ℕ) → hasEntries (kindFor c) ≡ false → rowsFine a c body ≡ true
+rows-untested {a} q c body n = unmet-fine a (times (countFor c body) (rowFor c .each)) _ (all-times (unmet a) (countFor c body) (rowFor c .each) (untested q (kindFor c) n))
 
 -- ---- what follows the content
 pub ending-digits : (time : ℕ) (certificate signature : List ℕ) → length certificate ≡ 12 → fine 25 ending (fill ending (time ∷ (certificate ++ signature))) ≡ inside 0 9 certificate

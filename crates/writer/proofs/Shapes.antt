@@ -12,7 +12,7 @@ use Rattle.laws.proofs.Writes.{sets-append}
 use Rattle.format.specs.declared.Line.{Line}
 use Rattle.format.specs.Format.{size, need, encode, fill, fine, times, sound}
 use Rattle.packet.specs.declared.Lines.{Lines}
-use Rattle.packet.specs.Shape.{Listed}
+use Rattle.packet.specs.InCode.{Listed}
 use Rattle.writer.specs.Puts.{After, Puttable, Rows}
 
 module _ (ts : Lines) (ls : List Line) (h : Listed ts ls) where

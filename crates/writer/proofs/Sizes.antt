@@ -8,9 +8,9 @@ use lib.ListN.{length}
 use Rattle.format.specs.Format.{need}
 use Rattle.packet.specs.declared.Content.{Content}
 use Rattle.packet.specs.declared.Sizes.{Sizes}
-use Rattle.packet.specs.declared.Sort.{Sort}
+use Rattle.packet.specs.declared.Counting.{Counting}
 use Rattle.packet.specs.Table.{contentBytes}
-use Rattle.packet.specs.Content.{formFor, numbersOf}
+use Rattle.packet.specs.Content.{kindFor, numbersOf}
 use Rattle.packet.specs.Reading.{sizesOf}
 use Rattle.packet.specs.Writing.{rowFor, digitsBefore, digitsAfter, lentBad}
 use Rattle.packet.proofs.Good.{good}
@@ -19,7 +19,7 @@ use Rattle.packet.proofs.Contents.{numbers-long}
 use Rattle.writer.specs.Puts.{countLent}
 use Rattle.writer.specs.Parts.{bytesOf}
 
-module _ (c : Content) (z : Sizes) (e : z ≡ sizesOf (formFor c)) where
+module _ (c : Content) (z : Sizes) (e : z ≡ sizesOf (kindFor c)) where
   first-is : z .first ≡ need (rowFor c .before)
   first-is = ap (λ (x : Sizes). x .first) e
 
@@ -30,26 +30,26 @@ module _ (c : Content) (z : Sizes) (e : z ≡ sizesOf (formFor c)) where
   last-is = ap (λ (x : Sizes). x .last) e
 
   pub row-few : z .row ≤ 8
-  row-few = omega (arith, row-is, good (formFor c) .entry)
+  row-few = omega (arith, row-is, good (kindFor c) .entry)
 
   -- the digits that it uses
   pub used-is : (n : ℕ) → n ≡ length (numbersOf c) → (n ≤ z .first) × (z .first - n + z .last ≡ digitsBefore c + digitsAfter c) × (z .first - n + z .last ≤ 35)
   used-is n m =
-      let g = good (formFor c) in
+      let g = good (kindFor c) in
       let l = numbers-long c in
       (omega (arith, first-is, m, l, g .numbered), omega (arith, first-is, last-is, m), omega (arith, first-is, last-is, m, l, g .last))
 
   -- its bytes
   module _ (k lent : ℕ) (q : k ≡ countLent c lent) where
     pub bytes-for : (z .lead + k * z .each + z .rest) / 8 ≡ bytesOf c lent
-    bytes-for = bytes-are (formFor c) k (z .lead) (z .each) (z .rest) (ap (λ (x : Sizes). x .lead) e) (ap (λ (x : Sizes). x .each) e) (ap (λ (x : Sizes). x .rest) e) ∙ ap (contentBytes (formFor c)) q
+    bytes-for = bytes-are (kindFor c) k (z .lead) (z .each) (z .rest) (ap (λ (x : Sizes). x .lead) e) (ap (λ (x : Sizes). x .each) e) (ap (λ (x : Sizes). x .rest) e) ∙ ap (contentBytes (kindFor c)) q
 
     pub bits-most : countLent c lent ≤ 2000 → (k * z .each ≤ 80000) × (z .lead ≤ 160) × (z .rest ≤ 96)
     bits-most h =
-        let g = good (formFor c) in
+        let g = good (kindFor c) in
         let a : z .each ≤ 40 = omega (arith, ap (λ (x : Sizes). x .each) e, g .row) in
         (le-trans (mul-le-mul-left k a) (omega arith), omega (arith, ap (λ (x : Sizes). x .lead) e, g .lead), omega (arith, ap (λ (x : Sizes). x .rest) e, g .rest))
 
     -- its count against what is lent
-    pub bad-by : (b : Bool) (s : Sort) → rowFor c .sort ≡ s → b ≡ lentBad s k (z .row) lent → b ≡ lentBad (rowFor c .sort) (countLent c lent) (need (rowFor c .each)) lent
+    pub bad-by : (b : Bool) (s : Counting) → rowFor c .counting ≡ s → b ≡ lentBad s k (z .row) lent → b ≡ lentBad (rowFor c .counting) (countLent c lent) (need (rowFor c .each)) lent
     bad-by b s h f = f ∙ rw (q, row-is, ← h)

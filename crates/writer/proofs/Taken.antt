@@ -8,12 +8,12 @@ use lib.ListN.{length}
 use borrow.Author.Tests.{leb-true, eqb-true, eq-eqb, ne-eqb, le-leb, lt-leb, not-false}
 use Rattle.laws.proofs.Cases.{and-yes, and-no, and-both, or-yes, or-no}
 use Rattle.format.specs.Format.{need, fine}
-use Rattle.packet.specs.declared.Sort.{Sort}
-use Rattle.packet.specs.declared.Sort.the-variants as sort
+use Rattle.packet.specs.declared.Counting.{Counting}
+use Rattle.packet.specs.declared.Counting.the-variants as counting
 use Rattle.packet.specs.declared.Content.{Content}
 use Rattle.packet.specs.declared.Fields.{Fields}
-use Rattle.packet.specs.Table.{formOf, typeOf}
-use Rattle.packet.specs.Content.{partsOf, formFor, countFor, noSuchDay}
+use Rattle.packet.specs.Table.{kindOf, typeOf}
+use Rattle.packet.specs.Content.{partsOf, kindFor, countFor, noSuchDay}
 use Rattle.packet.specs.Reading.{hasEntries}
 use Rattle.packet.proofs.Lent.{one-each, lent-enough, bodied-by}
 use Rattle.packet.proofs.Contents.{Repeated, entries, octet, nothing, repeated}
@@ -30,26 +30,26 @@ module _ (f : Fields) (codes body : List ℕ) where
   unfolding countBad
   other-codes h n = sym (or-yes _ (ap not (and-yes _ (le-leb _ _ h) ∙ ne-eqb _ _ n)))
 
-  pub by-lent : f .codes ≤ 255 → length codes ≡ f .codes * 23 → lentBad (rowFor (f .content) .sort) (countFor (f .content) body) (need (rowFor (f .content) .each)) (length body) ≡ countBad f codes body
+  pub by-lent : f .codes ≤ 255 → length codes ≡ f .codes * 23 → lentBad (rowFor (f .content) .counting) (countFor (f .content) body) (need (rowFor (f .content) .each)) (length body) ≡ countBad f codes body
   unfolding countBad
   by-lent h e = sym (or-no _ (ap not (and-yes _ (le-leb _ _ h) ∙ eq-eqb _ _ e)))
 
 -- a counted content: all of it
-pub counted-lent : (c : Content) (body : List ℕ) → rowFor c .sort ≡ sort.Counted → lentBad (rowFor c .sort) (countFor c body) (need (rowFor c .each)) (length body) ≡ false → Lent c body
+pub counted-lent : (c : Content) (body : List ℕ) → rowFor c .counting ≡ counting.Counted → lentBad (rowFor c .counting) (countFor c body) (need (rowFor c .each)) (length body) ≡ false → Lent c body
 counted-lent c body s e =
-    let a = lent-enough (countFor c body) (need (rowFor c .each)) body (sym (ap (λ (t : Sort). lentBad t (countFor c body) (need (rowFor c .each)) (length body)) s) ∙ e) in
+    let a = lent-enough (countFor c body) (need (rowFor c .each)) body (sym (ap (λ (t : Counting). lentBad t (countFor c body) (need (rowFor c .each)) (length body)) s) ∙ e) in
     record { few = a .0; numbers = a .1 }
 
 -- any content: as much as its rows need
-pub bodied-of : (c : Content) (body : List ℕ) → lentBad (rowFor c .sort) (countFor c body) (need (rowFor c .each)) (length body) ≡ false → Bodied c body
+pub bodied-of : (c : Content) (body : List ℕ) → lentBad (rowFor c .counting) (countFor c body) (need (rowFor c .each)) (length body) ≡ false → Bodied c body
 unfolding bodyFor
-bodied-of c body e = bodied-by (partsOf c .count) (need (rowFor c .each)) body (rowFor c .sort) (one-each (formFor c)) e
+bodied-of c body e = bodied-by (partsOf c .count) (need (rowFor c .each)) body (rowFor c .counting) (one-each (kindFor c)) e
 
 -- what counts that are not bad say
 pub record Good (f : Fields) (codes body : List ℕ) : Type 0 where
   pub counts : Counts f codes body
   pub few : f .codes ≤ 255
-  pub bad : lentBad (rowFor (f .content) .sort) (countFor (f .content) body) (need (rowFor (f .content) .each)) (length body) ≡ false
+  pub bad : lentBad (rowFor (f .content) .counting) (countFor (f .content) body) (need (rowFor (f .content) .each)) (length body) ≡ false
 
 pub good-counts : (f : Fields) (codes body : List ℕ) → countBad f codes body ≡ false → Good f codes body
 unfolding countBad
@@ -67,34 +67,34 @@ good-counts f codes body e =
     parts false y h = (refl, h)
 
 -- entries are counted
-pub entries-lent : (f : Fields) (codes body : List ℕ) → Good f codes body → hasEntries (formFor (f .content)) ≡ true → Lent (f .content) body
-entries-lent f codes body g q = by (repeated (formFor (f .content)))
+pub entries-lent : (f : Fields) (codes body : List ℕ) → Good f codes body → hasEntries (kindFor (f .content)) ≡ true → Lent (f .content) body
+entries-lent f codes body g q = by (repeated (kindFor (f .content)))
   where
-    by : Repeated (formFor (f .content)) → Lent (f .content) body
+    by : Repeated (kindFor (f .content)) → Lent (f .content) body
     by (entries e s) = counted-lent (f .content) body s (g .bad)
     by (octet e r) = absurd (true≢false (sym q ∙ e))
     by (nothing e r z) = absurd (true≢false (sym q ∙ e))
 
 -- ---- answer 27
 module _ (f : Fields) (body : List ℕ) where
-  pub other-type : (typeOf (formOf (f .kind)) ≡ typeOf (formFor (f .content)) → ⊥) → false ≡ not (somethingLost f body)
+  pub other-type : (typeOf (kindOf (f .typenumber)) ≡ typeOf (kindFor (f .content)) → ⊥) → false ≡ not (somethingLost f body)
   unfolding somethingLost
   other-type n = sym (ap not (or-yes _ (ap not (ne-eqb _ _ n))))
 
-  module _ (t : typeOf (formOf (f .kind)) ≡ typeOf (formFor (f .content))) where
+  module _ (t : typeOf (kindOf (f .typenumber)) ≡ typeOf (kindFor (f .content))) where
     this-type : otherType f ≡ false
     this-type = ap not (eq-eqb _ _ t)
 
-    pub body-lost : bodyLost (rowFor (f .content) .sort) (length body) ≡ true → false ≡ not (somethingLost f body)
+    pub body-lost : bodyLost (rowFor (f .content) .counting) (length body) ≡ true → false ≡ not (somethingLost f body)
     unfolding somethingLost
     body-lost e = sym (ap not (or-no _ this-type ∙ or-yes _ e))
 
-    module _ (b : bodyLost (rowFor (f .content) .sort) (length body) ≡ false) where
+    module _ (b : bodyLost (rowFor (f .content) .counting) (length body) ≡ false) where
       pub digits-lost : digitsLost (f .content) (f .digits) ≡ true → false ≡ not (somethingLost f body)
       unfolding somethingLost
       digits-lost e = sym (ap not (or-no _ this-type ∙ or-no _ b ∙ or-yes _ e))
 
-      pub by-codes : digitsLost (f .content) (f .digits) ≡ false → not (eqb (f .kind) 1 && not (eqb (f .codes) 0)) ≡ not (somethingLost f body)
+      pub by-codes : digitsLost (f .content) (f .digits) ≡ false → not (eqb (f .typenumber) 1 && not (eqb (f .codes) 0)) ≡ not (somethingLost f body)
       unfolding somethingLost
       by-codes e = sym (ap not (or-no _ this-type ∙ or-no _ b ∙ or-no _ e))
 
@@ -110,5 +110,5 @@ taken-parts false false false false false y = refl
 pub taken-is : (f : Fields) (codes body : List ℕ) (x : Bool) → fine 27 (tableFor f body) (valuesFor f codes body) ≡ x → not (notTaken f codes body) ≡ (not (somethingLost f body) && (x && not (noSuchDay (f .content))))
 unfolding notTaken somethingLost
 taken-is f codes body x e =
-    ap (λ (b : Bool). not (otherType f || (bodyLost (rowFor (f .content) .sort) (length body) || (digitsLost (f .content) (f .digits) || ((eqb (f .kind) 1 && not (eqb (f .codes) 0)) || (not b || noSuchDay (f .content))))))) e
-    ∙ taken-parts (otherType f) (bodyLost (rowFor (f .content) .sort) (length body)) (digitsLost (f .content) (f .digits)) (eqb (f .kind) 1 && not (eqb (f .codes) 0)) x (noSuchDay (f .content))
+    ap (λ (b : Bool). not (otherType f || (bodyLost (rowFor (f .content) .counting) (length body) || (digitsLost (f .content) (f .digits) || ((eqb (f .typenumber) 1 && not (eqb (f .codes) 0)) || (not b || noSuchDay (f .content))))))) e
+    ∙ taken-parts (otherType f) (bodyLost (rowFor (f .content) .counting) (length body)) (digitsLost (f .content) (f .digits)) (eqb (f .typenumber) 1 && not (eqb (f .codes) 0)) x (noSuchDay (f .content))

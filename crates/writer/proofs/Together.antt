@@ -15,7 +15,7 @@ use Rattle.format.proofs.Tables.{size-times, need-append, need-times}
 use Rattle.packet.specs.declared.Content.{Content}
 use Rattle.packet.specs.declared.Fields.{Fields}
 use Rattle.packet.specs.Table.{code, ending, packet, contentLines, countLine}
-use Rattle.packet.specs.Content.{formFor, countFor}
+use Rattle.packet.specs.Content.{kindFor, countFor}
 use Rattle.packet.specs.Writing.{rowFor, frontFor, backFor, bodyFor, sizeFor, tableFor, numbersFor, valuesFor}
 use Rattle.writer.specs.Puts.{After}
 use Rattle.writer.specs.Parts.{linesFor, contentBits, contentSize, headBits, endingBits, Lent, Counts}
@@ -49,7 +49,7 @@ size-least f body = omega arith
 
 pub content-small : (c : Content) (body : List ℕ) → Lent c body → contentSize c body ≤ 10456
 content-small c body h =
-    omega (arith, content-sizes c (replicate 35 0) body refl (bodied c body h), front-small c (countFor c body), body-small c body h, good (formFor c) .rest)
+    omega (arith, content-sizes c (replicate 35 0) body refl (bodied c body h), front-small c (countFor c body), body-small c body h, good (kindFor c) .rest)
 
 -- ---- the head
 head-long : (kind p n : ℕ) → length (headBits kind p n) ≡ 24
@@ -92,11 +92,11 @@ module _ (f : Fields) (codes body : List ℕ) (h : Counts f codes body) (d : len
         length-front c (f .digits) d,
         length-back c (f .digits) d,
         h .bodied,
-        need-append (rowFor c .before) (countLine (rowFor c .sort) k ++ (times k (rowFor c .each) ++ rowFor c .after)),
-        need-append (countLine (rowFor c .sort) k) (times k (rowFor c .each) ++ rowFor c .after),
+        need-append (rowFor c .before) (countLine (rowFor c .counting) k ++ (times k (rowFor c .each) ++ rowFor c .after)),
+        need-append (countLine (rowFor c .counting) k) (times k (rowFor c .each) ++ rowFor c .after),
         need-append (times k (rowFor c .each)) (rowFor c .after),
         need-times k (rowFor c .each),
-        count-needs (rowFor c .sort) k,
+        count-needs (rowFor c .counting) k,
       )
 
   ending-bits : encode ending (fill ending tail) ≡ endingBits (f .time) (f .certificate) (f .signature)
@@ -121,12 +121,12 @@ module _ (f : Fields) (codes body : List ℕ) (h : Counts f codes body) (d : len
       (two (linesFor c body) ending middle tail middle-long ∙ ap (λ (l : List ℕ). encode (linesFor c body) (fill (linesFor c body) middle) ++ l) ending-bits)
 
   pub packet-parts : encode (tableFor f body) (valuesFor f codes body)
-      ≡ headBits (f .kind) (sizeFor f body) (f .codes) ++ (encode (times (f .codes) code) (fill (times (f .codes) code) codes) ++ (contentBits c (f .digits) body ++ endingBits (f .time) (f .certificate) (f .signature)))
+      ≡ headBits (f .typenumber) (sizeFor f body) (f .codes) ++ (encode (times (f .codes) code) (fill (times (f .codes) code) codes) ++ (contentBits c (f .digits) body ++ endingBits (f .time) (f .certificate) (f .signature)))
   unfolding tableFor packet
   packet-parts =
       ap (λ (xs : List ℕ). encode (tableFor f body) (fill (tableFor f body) xs)) in-order
-      ∙ headed rest (codes ++ (middle ++ tail)) (f .kind) (sizeFor f body) (f .codes)
-      ∙ ap (λ (l : List ℕ). headBits (f .kind) (sizeFor f body) (f .codes) ++ l) rest-bits
+      ∙ headed rest (codes ++ (middle ++ tail)) (f .typenumber) (sizeFor f body) (f .codes)
+      ∙ ap (λ (l : List ℕ). headBits (f .typenumber) (sizeFor f body) (f .codes) ++ l) rest-bits
 
   codes-long : length (encode (times (f .codes) code) (fill (times (f .codes) code) codes)) ≡ f .codes * size code
   codes-long =
@@ -140,17 +140,17 @@ module _ (f : Fields) (codes body : List ℕ) (h : Counts f codes body) (d : len
   pub packet-long : length (encode (tableFor f body) (valuesFor f codes body)) ≡ 24 + (f .codes * size code + (contentSize c body + 592))
   packet-long =
       ap length packet-parts
-      ∙ length-append (headBits (f .kind) (sizeFor f body) (f .codes)) _
-      ∙ ap₂ _+_ (head-long (f .kind) (sizeFor f body) (f .codes))
+      ∙ length-append (headBits (f .typenumber) (sizeFor f body) (f .codes)) _
+      ∙ ap₂ _+_ (head-long (f .typenumber) (sizeFor f body) (f .codes))
       (length-append (encode (times (f .codes) code) (fill (times (f .codes) code) codes)) _
       ∙ ap₂ _+_ codes-long (length-append (contentBits c (f .digits) body) (endingBits (f .time) (f .certificate) (f .signature)) ∙ ap₂ _+_ content-long (ending-long (f .time) (f .certificate) (f .signature) lc ls)))
 
   -- put one behind the other, they are the packet
-  pub packet-put : (out a b e last : List ℕ) (p q r s : ℕ) → After out a 0 (headBits (f .kind) (sizeFor f body) (f .codes)) p 24
+  pub packet-put : (out a b e last : List ℕ) (p q r s : ℕ) → After out a 0 (headBits (f .typenumber) (sizeFor f body) (f .codes)) p 24
       → After a b p (encode (times (f .codes) code) (fill (times (f .codes) code) codes)) q (f .codes * size code) → After b e q (contentBits c (f .digits) body) r (contentSize c body)
       → After e last r (endingBits (f .time) (f .certificate) (f .signature)) s 592
       → bits last ≡ sets (bits out) 0 (encode (tableFor f body) (valuesFor f codes body))
   packet-put out a b e last p q r s x y z w =
       rw packet-parts
-      (then-put out a last 0 p s _ _ 24 _ (head-long (f .kind) (sizeFor f body) (f .codes)) x
+      (then-put out a last 0 p s _ _ 24 _ (head-long (f .typenumber) (sizeFor f body) (f .codes)) x
       (then-put a b last p q s _ _ (f .codes * size code) _ codes-long y (then-put b e last q r s _ _ (contentSize c body) 592 content-long z w)) .put)

@@ -10,11 +10,11 @@ use Rattle.laws.proofs.Bits.{length-bitsOf, length-spread}
 use Rattle.format.specs.declared.Line.{Line}
 use Rattle.format.specs.Format.{size, need, encode, fill, times}
 use Rattle.format.proofs.Tables.{fill-join, encode-join, length-fill, size-append, size-times, need-times}
-use Rattle.packet.specs.declared.Sort.{Sort}
-use Rattle.packet.specs.declared.Sort.the-variants as sort
+use Rattle.packet.specs.declared.Counting.{Counting}
+use Rattle.packet.specs.declared.Counting.the-variants as counting
 use Rattle.packet.specs.declared.Content.{Content}
 use Rattle.packet.specs.Table.{countLine, contentLines}
-use Rattle.packet.specs.Content.{formFor, countFor}
+use Rattle.packet.specs.Content.{kindFor, countFor}
 use Rattle.packet.specs.Writing.{rowFor, frontFor, backFor, bodyFor}
 use Rattle.writer.specs.Puts.{After}
 use Rattle.writer.specs.Parts.{frontBits, frontSize, bodyBits, bodySize, backBits, contentBits, contentSize, headBits, endingBits, Lent, Bodied}
@@ -24,12 +24,12 @@ use Rattle.writer.proofs.Contents.{length-front, body-whole}
 use Rattle.writer.proofs.Shapes.{then-put}
 
 -- a count takes none of the numbers
-pub count-needs : (s : Sort) (k : ℕ) → need (countLine s k) ≡ 0
+pub count-needs : (s : Counting) (k : ℕ) → need (countLine s k) ≡ 0
 unfolding need
-count-needs sort.Fixed k = refl
-count-needs sort.Counted k = refl
-count-needs sort.Raw k = refl
-count-needs sort.Unknown k = refl
+count-needs counting.Fixed k = refl
+count-needs counting.Counted k = refl
+count-needs counting.Raw k = refl
+count-needs counting.Unknown k = refl
 
 -- numbers and bits of lines after lines
 pub two : (A B : List Line) (x y : List ℕ) → length x ≡ need A → encode (A ++ B) (fill (A ++ B) (x ++ y)) ≡ encode A (fill A x) ++ encode B (fill B y)
@@ -45,25 +45,25 @@ module _ (c : Content) (ds body : List ℕ) (d : length ds ≡ 35) (h : Bodied c
   pub content-parts : contentBits c ds body ≡ frontBits c ds k ++ (bodyBits c body ++ backBits c ds)
   unfolding contentBits contentLines frontBits bodyBits backBits
   content-parts =
-      two (rowFor c .before) (countLine (rowFor c .sort) k ++ (times k (rowFor c .each) ++ rowFor c .after)) (frontFor c ds) (bodyFor c body ++ backFor c ds) (length-front c ds d)
+      two (rowFor c .before) (countLine (rowFor c .counting) k ++ (times k (rowFor c .each) ++ rowFor c .after)) (frontFor c ds) (bodyFor c body ++ backFor c ds) (length-front c ds d)
       ∙ ap (λ (l : List ℕ). encode (rowFor c .before) (fill (rowFor c .before) (frontFor c ds)) ++ l)
-      (two (countLine (rowFor c .sort) k) (times k (rowFor c .each) ++ rowFor c .after) [] (bodyFor c body ++ backFor c ds) (sym (count-needs (rowFor c .sort) k))
-      ∙ ap (λ (l : List ℕ). encode (countLine (rowFor c .sort) k) (fill (countLine (rowFor c .sort) k) []) ++ l)
+      (two (countLine (rowFor c .counting) k) (times k (rowFor c .each) ++ rowFor c .after) [] (bodyFor c body ++ backFor c ds) (sym (count-needs (rowFor c .counting) k))
+      ∙ ap (λ (l : List ℕ). encode (countLine (rowFor c .counting) k) (fill (countLine (rowFor c .counting) k) []) ++ l)
       (two (times k (rowFor c .each)) (rowFor c .after) (bodyFor c body) (backFor c ds) length-body))
-      ∙ sym (append-assoc (encode (rowFor c .before) (fill (rowFor c .before) (frontFor c ds))) (encode (countLine (rowFor c .sort) k) (fill (countLine (rowFor c .sort) k) [])) _)
+      ∙ sym (append-assoc (encode (rowFor c .before) (fill (rowFor c .before) (frontFor c ds))) (encode (countLine (rowFor c .counting) k) (fill (countLine (rowFor c .counting) k) [])) _)
 
   pub content-sizes : contentSize c body ≡ frontSize c k + (bodySize c body + size (rowFor c .after))
   unfolding contentSize contentLines frontSize bodySize
   content-sizes =
-      size-append (rowFor c .before) (countLine (rowFor c .sort) k ++ (times k (rowFor c .each) ++ rowFor c .after))
-      ∙ omega (arith, size-append (countLine (rowFor c .sort) k) (times k (rowFor c .each) ++ rowFor c .after), size-append (times k (rowFor c .each)) (rowFor c .after), size-times k (rowFor c .each))
+      size-append (rowFor c .before) (countLine (rowFor c .counting) k ++ (times k (rowFor c .each) ++ rowFor c .after))
+      ∙ omega (arith, size-append (countLine (rowFor c .counting) k) (times k (rowFor c .each) ++ rowFor c .after), size-append (times k (rowFor c .each)) (rowFor c .after), size-times k (rowFor c .each))
 
   front-long : length (frontBits c ds k) ≡ frontSize c k
   unfolding frontBits frontSize
   front-long =
       let f = length-front c ds d in
-      length-append (encode (rowFor c .before) (fill (rowFor c .before) (frontFor c ds))) (encode (countLine (rowFor c .sort) k) (fill (countLine (rowFor c .sort) k) []))
-      ∙ ap₂ _+_ (encode-size (rowFor c .before) (frontFor c ds) (omega arith)) (encode-size (countLine (rowFor c .sort) k) [] (omega (arith, count-needs (rowFor c .sort) k)))
+      length-append (encode (rowFor c .before) (fill (rowFor c .before) (frontFor c ds))) (encode (countLine (rowFor c .counting) k) (fill (countLine (rowFor c .counting) k) []))
+      ∙ ap₂ _+_ (encode-size (rowFor c .before) (frontFor c ds) (omega arith)) (encode-size (countLine (rowFor c .counting) k) [] (omega (arith, count-needs (rowFor c .counting) k)))
 
   body-long : length (bodyBits c body) ≡ bodySize c body
   unfolding bodyBits bodySize
@@ -84,20 +84,20 @@ pub bodied : (c : Content) (body : List ℕ) → Lent c body → Bodied c body
 bodied c body h = ap length (body-whole c body h) ∙ h .numbers
 
 -- ---- sizes
-count-small : (s : Sort) (k : ℕ) → size (countLine s k) ≤ 8
+count-small : (s : Counting) (k : ℕ) → size (countLine s k) ≤ 8
 unfolding size
-count-small sort.Fixed k = omega arith
-count-small sort.Counted k = omega arith
-count-small sort.Raw k = omega arith
-count-small sort.Unknown k = omega arith
+count-small counting.Fixed k = omega arith
+count-small counting.Counted k = omega arith
+count-small counting.Raw k = omega arith
+count-small counting.Unknown k = omega arith
 
 pub front-small : (c : Content) (k : ℕ) → frontSize c k ≤ 160
 unfolding frontSize
-front-small c k = omega (arith, good (formFor c) .first, count-small (rowFor c .sort) k)
+front-small c k = omega (arith, good (kindFor c) .first, count-small (rowFor c .counting) k)
 
 pub body-small : (c : Content) (body : List ℕ) → Lent c body → bodySize c body ≤ 10200
 unfolding bodySize
-body-small c body h = le-trans (mul-le-mul-left (countFor c body) (good (formFor c) .row)) (let f = h .few in omega arith)
+body-small c body h = le-trans (mul-le-mul-left (countFor c body) (good (kindFor c) .row)) (let f = h .few in omega arith)
 
 -- ---- what stands before the codes, and behind the content
 pub head-put : (out a b last : List ℕ) (kind p n : ℕ) → After out a 0 (bitsOf 5 kind) 5 5 → After a b 5 (bitsOf 11 (p - 2)) 16 11 → After b last 16 (bitsOf 8 n) 24 8 → After out last 0 (headBits kind p n) 24 24

@@ -14,12 +14,12 @@ use Rattle.laws.proofs.Refusals.{not-due}
 use Rattle.laws.proofs.Writes.{from-front}
 use Rattle.format.specs.Format.{encode, need, fine}
 use Rattle.format.proofs.Round.{under-encode}
-use Rattle.packet.specs.declared.Sort.{Sort}
-use Rattle.packet.specs.declared.Sort.the-variants as sort
+use Rattle.packet.specs.declared.Counting.{Counting}
+use Rattle.packet.specs.declared.Counting.the-variants as counting
 use Rattle.packet.specs.declared.Content.{Content}
 use Rattle.packet.specs.Table.{countBy}
 use Rattle.packet.specs.declared.Fields.{Fields}
-use Rattle.packet.specs.Content.{partsOf, formFor, countFor, noSuchDay}
+use Rattle.packet.specs.Content.{partsOf, kindFor, countFor, noSuchDay}
 use Rattle.packet.proofs.Bytes.{bytes-least}
 use Rattle.packet.proofs.Contents.{content-known}
 use Rattle.packet.specs.Writing.{rowFor, sizeFor, tableFor, valuesFor, bytesFor, lentBad, otherType, bodyLost, digitsLost, countBad, digitBad, notTaken, writtenAnswer, written, packetOutput}
@@ -58,10 +58,10 @@ passed f codes body room e =
     record { counts = b .0; taken = d .0; small = ltb-false 250 (sizeFor f body) (s .0); room-enough = ltb-false room (sizeFor f body) (r .0) }
 
 -- all of the body is the content's
-body-of : (f : Fields) (codes body : List ℕ) → notTaken f codes body ≡ false → bodyLost (rowFor (f .content) .sort) (length body) ≡ false
+body-of : (f : Fields) (codes body : List ℕ) → notTaken f codes body ≡ false → bodyLost (rowFor (f .content) .counting) (length body) ≡ false
 unfolding notTaken
 body-of f codes body e =
-    second (otherType f) (bodyLost (rowFor (f .content) .sort) (length body)) (digitsLost (f .content) (f .digits) || ((eqb (f .kind) 1 && not (eqb (f .codes) 0)) || (not (fine 27 (tableFor f body) (valuesFor f codes body)) || noSuchDay (f .content)))) e
+    second (otherType f) (bodyLost (rowFor (f .content) .counting) (length body)) (digitsLost (f .content) (f .digits) || ((eqb (f .typenumber) 1 && not (eqb (f .codes) 0)) || (not (fine 27 (tableFor f body) (valuesFor f codes body)) || noSuchDay (f .content)))) e
   where
     second : (a b c : Bool) → (a || (b || c)) ≡ false → b ≡ false
     second true b c h = absurd (false≢true (sym h))
@@ -69,22 +69,22 @@ body-of f codes body e =
     second false false c h = refl
 
 -- a raw body is no longer than its packet
-raw-short : (c : Content) (body : List ℕ) (n : ℕ) → 77 + 12 * n + bytesOf c (length body) ≤ 250 → rowFor c .sort ≡ sort.Raw → length body ≤ 255
+raw-short : (c : Content) (body : List ℕ) (n : ℕ) → 77 + 12 * n + bytesOf c (length body) ≤ 250 → rowFor c .counting ≡ counting.Raw → length body ≤ 255
 raw-short c body n h q =
-    let e : countFor c body ≡ length body = ap (λ (s : Sort). countBy s (partsOf c .count) (length body)) q in
-    omega (arith, e, bytes-least (formFor c) (partsOf c .count) (length body), h)
+    let e : countFor c body ≡ length body = ap (λ (s : Counting). countBy s (partsOf c .count) (length body)) q in
+    omega (arith, e, bytes-least (kindFor c) (partsOf c .count) (length body), h)
 
-few-by : (s : Sort) (k w : ℕ) (body : List ℕ) → lentBad s (countBy s k (length body)) w (length body) ≡ false → (s ≡ sort.Raw → length body ≤ 255) → countBy s k (length body) ≤ 255
-few-by sort.Fixed k w body b r = omega arith
-few-by sort.Counted k w body b r = lent-enough k w body b .0
-few-by sort.Raw k w body b r = r refl
-few-by sort.Unknown k w body b r = omega arith
+few-by : (s : Counting) (k w : ℕ) (body : List ℕ) → lentBad s (countBy s k (length body)) w (length body) ≡ false → (s ≡ counting.Raw → length body ≤ 255) → countBy s k (length body) ≤ 255
+few-by counting.Fixed k w body b r = omega arith
+few-by counting.Counted k w body b r = lent-enough k w body b .0
+few-by counting.Raw k w body b r = r refl
+few-by counting.Unknown k w body b r = omega arith
 
-lent-of : (c : Content) (body : List ℕ) → bodyLost (rowFor c .sort) (length body) ≡ false → lentBad (rowFor c .sort) (countFor c body) (need (rowFor c .each)) (length body) ≡ false → (rowFor c .sort ≡ sort.Raw → length body ≤ 255) → Lent c body
+lent-of : (c : Content) (body : List ℕ) → bodyLost (rowFor c .counting) (length body) ≡ false → lentBad (rowFor c .counting) (countFor c body) (need (rowFor c .each)) (length body) ≡ false → (rowFor c .counting ≡ counting.Raw → length body ≤ 255) → Lent c body
 lent-of c body l b r =
     record {
-      few = few-by (rowFor c .sort) (partsOf c .count) (need (rowFor c .each)) body b r;
-      numbers = lent-by (partsOf c .count) (need (rowFor c .each)) body (rowFor c .sort) (one-each (formFor c)) (content-known c) l b;
+      few = few-by (rowFor c .counting) (partsOf c .count) (need (rowFor c .each)) body b r;
+      numbers = lent-by (partsOf c .count) (need (rowFor c .each)) body (rowFor c .counting) (one-each (kindFor c)) (content-known c) l b;
     }
 
 pub writable : (f : Fields) (codes body : List ℕ) (room : ℕ) → Passed f codes body room → Writable f codes body

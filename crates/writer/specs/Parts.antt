@@ -11,18 +11,18 @@ use Rattle.format.specs.Format.{size, need, encode, fill, fine, times}
 use Rattle.packet.specs.declared.Content.{Content}
 use Rattle.packet.specs.declared.Fields.{Fields}
 use Rattle.packet.specs.Table.{contentBytes, countLine, contentLines}
-use Rattle.packet.specs.Content.{formFor, countFor}
+use Rattle.packet.specs.Content.{kindFor, countFor}
 use Rattle.packet.specs.Writing.{rowFor, frontFor, backFor, bodyFor, sizeFor, otherType, bodyLost, digitsLost}
 use Rattle.writer.specs.Puts.{countLent}
 
 -- a content: its first lines and its count; what is repeated; its last lines
 unfoldable pub frontBits : Content → List ℕ → ℕ → List ℕ
 frontBits c ds k =
-    encode (rowFor c .before) (fill (rowFor c .before) (frontFor c ds)) ++ encode (countLine (rowFor c .sort) k) (fill (countLine (rowFor c .sort) k) [])
+    encode (rowFor c .before) (fill (rowFor c .before) (frontFor c ds)) ++ encode (countLine (rowFor c .counting) k) (fill (countLine (rowFor c .counting) k) [])
 
 -- how many bits that is
 unfoldable pub frontSize : Content → ℕ → ℕ
-frontSize c k = size (rowFor c .before) + size (countLine (rowFor c .sort) k)
+frontSize c k = size (rowFor c .before) + size (countLine (rowFor c .counting) k)
 
 -- what is repeated
 unfoldable pub bodyBits : Content → List ℕ → List ℕ
@@ -79,7 +79,7 @@ pub record Writable (f : Fields) (codes body : List ℕ) : Type 0 where
 -- ---- what the answers ask, part by part (01, Numbers given back, Packet writer)
 -- the bytes of a content, by the column of paper 01's table, where so many numbers are lent
 abbrev pub bytesOf : Content → ℕ → ℕ
-bytesOf c lent = contentBytes (formFor c) (countLent c lent)
+bytesOf c lent = contentBytes (kindFor c) (countLent c lent)
 
 -- no first line is due the answer a
 abbrev pub frontFine : ℕ → Content → List ℕ → Bool
@@ -96,4 +96,4 @@ backFine a c ds = fine a (rowFor c .after) (fill (rowFor c .after) (backFor c ds
 -- 27 for what could not be handed back
 unfoldable pub somethingLost : Fields → List ℕ → Bool
 somethingLost f body =
-    otherType f || (bodyLost (rowFor (f .content) .sort) (length body) || (digitsLost (f .content) (f .digits) || (eqb (f .kind) 1 && not (eqb (f .codes) 0))))
+    otherType f || (bodyLost (rowFor (f .content) .counting) (length body) || (digitsLost (f .content) (f .digits) || (eqb (f .typenumber) 1 && not (eqb (f .codes) 0))))

@@ -12,11 +12,11 @@ use Rattle.format.specs.Format.{need, size, sound}
 use Rattle.packet.specs.declared.Lines.{Lines}
 use Rattle.packet.specs.declared.Content.{Content}
 use Rattle.packet.specs.Table.{rowOf, countBy}
-use Rattle.packet.specs.Content.{partsOf, formFor, numbersOf}
+use Rattle.packet.specs.Content.{partsOf, kindFor, numbersOf}
 
 -- the numbers of a line, where xs are those at hand
 abbrev pub valueOf : Line → List ℕ → List ℕ
-valueOf t xs = cond (t .free) (take (t .n) xs) (replicate (t .n) (t .lo))
+valueOf t xs = cond (t .given) (take (t .count) xs) (replicate (t .count) (t .lo))
 
 -- the bits v put from bit p on, and the place behind them
 pub record After (before after : List ℕ) (p : ℕ) (v : List ℕ) (r : ℕ) (s : ℕ) : Type 0 where
@@ -54,4 +54,4 @@ pub record Fronted (c : Content) (ds r : List ℕ) : Type 0 where
 
 -- the count of a content, where so many bytes are lent
 abbrev pub countLent : Content → ℕ → ℕ
-countLent c lent = countBy (rowOf (formFor c) .sort) (partsOf c .count) lent
+countLent c lent = countBy (rowOf (kindFor c) .counting) (partsOf c .count) lent

@@ -3,7 +3,7 @@ ghost use mathlib.Core.Path.{_≡_};
 ghost use mathlib.Core.List.{[], _∷_, _++_};
 ghost use Prim.Native.Nat.{_+_, _<_, _≤_};
 ghost use lib.ListN.{length, take};
-ghost use Rattle.packet.specs.Content.{formFor};
+ghost use Rattle.packet.specs.Content.{kindFor};
 ghost use Rattle.format.specs.Format.{size};
 ghost use Rattle.packet.specs.Writing.{rowFor, digitsBefore, digitsAfter};
 ghost use Rattle.writer.specs.Puts.{After, Fronted, countLent};
@@ -11,12 +11,12 @@ ghost use Rattle.writer.specs.Laying.{LaidOut};
 ghost use Rattle.writer.specs.Parts.{frontBits, frontSize, bodyBits, bodySize, backBits, contentBits, contentSize, Lent};
 use crate::puts;
 use packet::Content;
-use packet::Form;
-use packet::Sort;
+use packet::Counting;
+use packet::Kind;
 
 // A content laid out: its kind, how many numbers it has, the numbers, and its count.
 pub(crate) struct Laid {
-    pub(crate) kind: Form,
+    pub(crate) kind: Kind,
     pub(crate) n: usize,
     pub(crate) numbers: [u32; 41],
     pub(crate) count: usize,
@@ -36,7 +36,7 @@ fn six(a: u32, b: u32, c: u32, d: u32, e: u32, f: u32) -> [u32; 41]
     all
 }
 
-fn laid_as(kind: Form, n: usize, numbers: [u32; 41], count: usize) -> Laid
+fn laid_as(kind: Kind, n: usize, numbers: [u32; 41], count: usize) -> Laid
     ensures { λ r. ⌜ (r .kind ≡ kind) × (r .n ≡ n) × (r .numbers ≡ numbers) × (r .count ≡ count) ⌝ }
 {
     Laid {
@@ -52,13 +52,13 @@ fn lay(c: Content) -> Laid
     ensures { λ r. ⌜ LaidOut c r ⌝ }
 {
     match c {
-        Content::Raw => laid_as(Form::Raw, 0, six(0, 0, 0, 0, 0, 0), 0),
+        Content::Raw => laid_as(Kind::Raw, 0, six(0, 0, 0, 0, 0, 0), 0),
         Content::Frequencies { count } => {
-            laid_as(Form::Frequencies, 0, six(0, 0, 0, 0, 0, 0), count)
+            laid_as(Kind::Frequencies, 0, six(0, 0, 0, 0, 0, 0), count)
         }
-        Content::Address { length } => laid_as(Form::Address, 0, six(0, 0, 0, 0, 0, 0), length),
+        Content::Address { length } => laid_as(Kind::Address, 0, six(0, 0, 0, 0, 0, 0), length),
         Content::Keep { on, period } => {
-            laid_as(Form::Keep, 2, six(on as u32, period as u32, 0, 0, 0, 0), 0)
+            laid_as(Kind::Keep, 2, six(on as u32, period as u32, 0, 0, 0, 0), 0)
         }
         Content::Clock {
             year,
@@ -76,30 +76,30 @@ fn lay(c: Content) -> Laid
                 minute as u32,
                 second as u32,
             );
-            laid_as(Form::Clock, 6, numbers, 0)
+            laid_as(Kind::Clock, 6, numbers, 0)
         }
         Content::Reset { change } => {
-            laid_as(Form::Reset, 1, six(change as u32, 0, 0, 0, 0, 0), 0)
+            laid_as(Kind::Reset, 1, six(change as u32, 0, 0, 0, 0, 0), 0)
         }
-        Content::Factory => laid_as(Form::Factory, 0, six(0, 0, 0, 0, 0, 0), 0),
+        Content::Factory => laid_as(Kind::Factory, 0, six(0, 0, 0, 0, 0, 0), 0),
         Content::Drill { action } => {
-            laid_as(Form::Drill, 1, six(action as u32, 0, 0, 0, 0, 0), 0)
+            laid_as(Kind::Drill, 1, six(action as u32, 0, 0, 0, 0, 0), 0)
         }
         Content::Text { kind, set, length } => {
             laid_as(
-                Form::Text,
+                Kind::Text,
                 2,
                 six(kind as u32, set as u32, 0, 0, 0, 0),
                 length,
             )
         }
-        Content::Hold { serial } => laid_as(Form::Hold, 1, six(serial as u32, 0, 0, 0, 0, 0), 0),
+        Content::Hold { serial } => laid_as(Kind::Hold, 1, six(serial as u32, 0, 0, 0, 0, 0), 0),
     }
 }
 
 // The kind of a content.
-pub(crate) fn form_for(c: Content) -> Form
-    ensures { λ r. ⌜ r ≡ formFor c ⌝ }
+pub(crate) fn kind_for(c: Content) -> Kind
+    ensures { λ r. ⌜ r ≡ kindFor c ⌝ }
 {
     let l = lay(c);
     let kind = l.kind;
@@ -113,12 +113,12 @@ pub(crate) fn count_for(c: Content, lent: usize) -> usize
     let l = lay(c);
     let kind = l.kind;
     let s = packet::row_of(kind);
-    let sort = s.sort;
-    match sort {
-        Sort::Fixed => 0,
-        Sort::Counted => l.count,
-        Sort::Raw => lent,
-        Sort::Unknown => 0,
+    let counting = s.counting;
+    match counting {
+        Counting::Fixed => 0,
+        Counting::Counted => l.count,
+        Counting::Raw => lent,
+        Counting::Unknown => 0,
     }
 }
 
@@ -160,12 +160,12 @@ fn put_front(out: &mut [u8], p: usize, c: Content, digits: [u8; 35], k: usize) -
     requires { ⌜ (k ≤ 255) × (p < 3000) ⌝ }
     ensures { λ r. ⌜ After (now (out .entry)) (now (out .exit)) p (frontBits c digits k) r (frontSize c k) ⌝ }
 {
-    let s = packet::row_of(form_for(c));
+    let s = packet::row_of(kind_for(c));
     let before = s.before;
-    let sort = s.sort;
+    let counting = s.counting;
     let front = front_of(c, digits);
     let q = puts::put_lines(out, p, before, &front);
-    puts::put_count(out, q, sort, k)
+    puts::put_count(out, q, counting, k)
 }
 
 // The repeated part: entries, or bytes, of which most contents have none.
@@ -173,7 +173,7 @@ fn put_body(out: &mut [u8], p: usize, c: Content, body: &[u8]) -> usize
     requires { ⌜ Lent c (now body) × (p < 3000) ⌝ }
     ensures { λ r. ⌜ After (now (out .entry)) (now (out .exit)) p (bodyBits c (now (body .entry))) r (bodySize c (now (body .entry))) ⌝ }
 {
-    let f = form_for(c);
+    let f = kind_for(c);
     if packet::has_entries(f) {
         let s = packet::row_of(f);
         let z = packet::sizes_of(f);
@@ -190,7 +190,7 @@ fn put_back(out: &mut [u8], p: usize, c: Content, digits: [u8; 35]) -> usize
     requires { ⌜ p < 30000 ⌝ }
     ensures { λ r. ⌜ After (now (out .entry)) (now (out .exit)) p (backBits c digits) r (size (rowFor c .after)) ⌝ }
 {
-    let s = packet::row_of(form_for(c));
+    let s = packet::row_of(kind_for(c));
     let after = s.after;
     let back = puts::widened(&digits, 0, 35);
     puts::put_lines(out, p, after, &back)

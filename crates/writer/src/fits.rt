@@ -14,7 +14,7 @@ fn in_range(t: Line, xs: &[u32], i: usize) -> bool
     requires { ⌜ (sound t ≡ true) × (i + own t ≤ length (now xs)) × (length (now xs) ≤ 1000) ⌝ }
     ensures { λ r. ⌜ r ≡ inside (t .lo) (t .hi) (valueOf t (drop i (now (xs .entry)))) ⌝ }
 {
-    let n = t.n;
+    let n = t.count;
     let lo = t.lo;
     let hi = t.hi;
     let mut j: usize = 0;
@@ -36,7 +36,7 @@ fn line_fits(a: u8, t: Line, xs: &[u32], i: usize) -> bool
     requires { ⌜ (sound t ≡ true) × (i + own t ≤ length (now xs)) × (length (now xs) ≤ 1000) ⌝ }
     ensures { λ r. ⌜ r ≡ lineOk a t (valueOf t (drop i (now (xs .entry)))) ⌝ }
 {
-    let o = t.other;
+    let o = t.answer;
     if o == a { in_range(t, xs, i) } else { true }
 }
 

@@ -3,7 +3,7 @@ mod content;
 mod fits;
 mod packets;
 mod puts;
-mod tests;
+mod refusals;
 
 ghost use mathlib.Core.Path.{_≡_};
 ghost use lib.ListN.{length};
@@ -17,14 +17,14 @@ pub fn write(fields: Fields, codes: &[u8], body: &[u8], out: &mut [u8]) -> Writt
     ensures answer { λ r. ⌜ r ≡ written fields (now (codes .entry)) (now (body .entry)) (length (now (out .entry))) ⌝ }
     ensures output { λ _. ⌜ now (out .exit) ≡ packetOutput fields (now (codes .entry)) (now (body .entry)) (now (out .entry)) ⌝ }
 {
-    let a = tests::answer(fields, codes, body, out.len());
+    let a = refusals::answer(fields, codes, body, out.len());
     if a != 0 {
         return Written {
             answer: a,
             length: 0,
         };
     }
-    let size = tests::size_of(fields, body.len());
+    let size = refusals::size_of(fields, body.len());
     packets::put_packet(fields, codes, body, size, out);
     Written {
         answer: 0,

@@ -11,14 +11,14 @@ ghost use Rattle.packet.specs.Table.{countLine};
 ghost use mathlib.Core.List.{[]};
 ghost use Rattle.writer.specs.Puts.{valueOf, After, Puttable, Rows};
 use format::Line;
+use packet::Counting;
 use packet::Lines;
-use packet::Sort;
 
 // The number at i of a line: its own, or the one that it always has.
 pub(crate) fn number_of(t: Line, xs: &[u32], i: usize) -> u32
-    ensures { λ r. ⌜ r ≡ cond (t .free) (getD (now (xs .entry)) i 0) (t .lo) ⌝ }
+    ensures { λ r. ⌜ r ≡ cond (t .given) (getD (now (xs .entry)) i 0) (t .lo) ⌝ }
 {
-    let free = t.free;
+    let free = t.given;
     if free {
         if i < xs.len() { xs[i] } else { 0 }
     } else {
@@ -29,10 +29,10 @@ pub(crate) fn number_of(t: Line, xs: &[u32], i: usize) -> u32
 // A line from bit p on, with the numbers of xs from i on.
 fn put_line(out: &mut [u8], p: usize, t: Line, xs: &[u32], i: usize)
     requires { ⌜ (sound t ≡ true) × (p < 50000) × (i + own t ≤ length (now xs)) × (length (now xs) ≤ 1000) ⌝ }
-    ensures { λ _. ⌜ bits (now (out .exit)) ≡ sets (bits (now (out .entry))) p (spread (t .w) (valueOf t (drop i (now (xs .entry))))) ⌝ }
+    ensures { λ _. ⌜ bits (now (out .exit)) ≡ sets (bits (now (out .entry))) p (spread (t .width) (valueOf t (drop i (now (xs .entry))))) ⌝ }
 {
-    let n = t.n;
-    let w = t.w;
+    let n = t.count;
+    let w = t.width;
     let mut q = p;
     let mut j: usize = 0;
     while j < n {
@@ -46,16 +46,16 @@ fn put_line(out: &mut [u8], p: usize, t: Line, xs: &[u32], i: usize)
 // The bits of a line, and how many numbers it takes of those at hand.
 fn width(t: Line) -> usize
     requires { ⌜ sound t ≡ true ⌝ }
-    ensures { λ r. ⌜ (r ≡ t .n * t .w) × (r ≤ 2048) ⌝ }
+    ensures { λ r. ⌜ (r ≡ t .count * t .width) × (r ≤ 2048) ⌝ }
 {
-    t.n * t.w
+    t.count * t.width
 }
 
 pub(crate) fn taken(t: Line) -> usize
     ensures { λ r. ⌜ r ≡ own t ⌝ }
 {
-    let free = t.free;
-    if free { t.n } else { 0 }
+    let free = t.given;
+    if free { t.count } else { 0 }
 }
 
 // Lines from bit p on, with the numbers xs; the place behind them.
@@ -110,18 +110,18 @@ pub(crate) fn put_rows(out: &mut [u8], p: usize, ts: Lines, n: usize, w: usize, 
 }
 
 // The count of a counted content.
-pub(crate) fn put_count(out: &mut [u8], p: usize, sort: Sort, k: usize) -> usize
+pub(crate) fn put_count(out: &mut [u8], p: usize, counting: Counting, k: usize) -> usize
     requires { ⌜ (k ≤ 255) × (p < 30000) ⌝ }
-    ensures { λ r. ⌜ After (now (out .entry)) (now (out .exit)) p (encode (countLine sort k) (fill (countLine sort k) [])) r (size (countLine sort k)) ⌝ }
+    ensures { λ r. ⌜ After (now (out .entry)) (now (out .exit)) p (encode (countLine counting k) (fill (countLine counting k) [])) r (size (countLine counting k)) ⌝ }
 {
-    match sort {
-        Sort::Fixed => p,
-        Sort::Counted => {
+    match counting {
+        Counting::Fixed => p,
+        Counting::Counted => {
             format::put_field(out, p, 8, k as u32);
             p + 8
         }
-        Sort::Raw => p,
-        Sort::Unknown => p,
+        Counting::Raw => p,
+        Counting::Unknown => p,
     }
 }
 

@@ -4,7 +4,7 @@ use mathlib.Core.List.{[], _∷_}
 use native.Mathlib.Omega.{arith}
 use lib.ListN.{length}
 use lib.Seq.{length-sets}
-use Rattle.lines.proofs.Numbers.{at-most-20}
+use Rattle.print.proofs.Numbers.{at-most-20}
 use Rattle.compare.specs.Differences.{below}
 use Rattle.compare.specs.Texts.{lastWord, textsOf}
 use Rattle.compare.proofs.Lines.{phrase-length}

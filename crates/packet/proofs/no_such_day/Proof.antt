@@ -3,7 +3,7 @@ use mathlib.Core.Path.{ap, _∙_}
 use mathlib.Core.Bool.{not}
 use Prim.Native.Nat.{ℕ}
 use lib.Dec.{leb}
-use Rattle.packet.proofs.Forms as forms
+use Rattle.packet.proofs.ByType as types
 use borrow.Author.Needs.{needs}
 use Rattle.packet.proofs.no_such_day.Statement.{statement}
 use Rattle.packet.proofs.no_such_day.Tie as tie
@@ -56,7 +56,7 @@ returns-4 c = search needs
 returns-5 : tie.Need-returns-5
 returns-5 c =
     let x = c .before .before .c .given .0 in
-    forms.below-not (c .days-in .result) (x .1 .1 .0) ∙ ap (λ (d : ℕ). not (leb (x .1 .1 .0) d)) (c .days-in .ensures) ∙ rw (c .before .before .c .given .1)
+    types.below-not (c .days-in .result) (x .1 .1 .0) ∙ ap (λ (d : ℕ). not (leb (x .1 .1 .0) d)) (c .days-in .ensures) ∙ rw (c .before .before .c .given .1)
 
 returns-6 : tie.Need-returns-6
 returns-6 c = search needs

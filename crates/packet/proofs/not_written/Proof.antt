@@ -7,8 +7,8 @@ use Rattle.packet.specs.Reading.{isUnknown}
 use Rattle.packet.proofs.not_written.Statement.{statement}
 use Rattle.packet.proofs.not_written.Tie as tie
 
-form-of-requires : tie.Need-form-of-requires
-form-of-requires c κs = search needs
+kind-of-requires : tie.Need-kind-of-requires
+kind-of-requires c κs = search needs
 
 is-unknown-requires : tie.Need-is-unknown-requires
 is-unknown-requires c κs = search needs
@@ -17,13 +17,13 @@ returns : tie.Need-returns
 returns c = sym (or-yes _ (eq-eqb _ _ (c .if1 .taken)))
 
 returns-2 : tie.Need-returns-2
-returns-2 c = c .is-unknown .ensures ∙ ap isUnknown (c .before .form-of .ensures) ∙ sym (or-no _ (ne-eqb _ _ (c .before .before .if1 .left)))
+returns-2 c = c .is-unknown .ensures ∙ ap isUnknown (c .before .kind-of .ensures) ∙ sym (or-no _ (ne-eqb _ _ (c .before .before .if1 .left)))
 
 pub not-written-spec : {M : Type 1} → statement M
 not-written-spec =
     tie.close
     (tie.spec
     returns
-    form-of-requires
+    kind-of-requires
     is-unknown-requires
     returns-2)

@@ -4,17 +4,14 @@ use borrow.Author.Needs.{needs}
 use Rattle.reader.proofs.fields.Statement.{statement}
 use Rattle.reader.proofs.fields.Tie as tie
 
-kind-requires : tie.Need-kind-requires
-kind-requires c κs = search needs
+type-in-requires : tie.Need-type-in-requires
+type-in-requires c κs = search needs
 
 codes-count-requires : tie.Need-codes-count-requires
 codes-count-requires c κs = search needs
 
-content-requires : tie.Need-content-requires
-content-requires c κs = search needs
-
-digits-requires : tie.Need-digits-requires
-digits-requires c κs = search needs
+told-requires : tie.Need-told-requires
+told-requires c κs = search needs
 
 time-requires : tie.Need-time-requires
 time-requires c κs = search needs
@@ -27,16 +24,15 @@ signature-requires c κs = search needs
 
 returns : tie.Need-returns
 unfolding fieldsOf
-returns c = rw (c .signature .ensures, c .before .certificate .ensures, c .before .before .time .ensures, c .before .before .before .digits .ensures, c .before .before .before .before .content .ensures, c .before .before .before .before .before .codes-count .ensures .0, c .before .before .before .before .before .before .kind .ensures)
+returns c = rw (c .signature .ensures, c .before .certificate .ensures, c .before .before .time .ensures, c .before .before .before .before .told .ensures .1, c .before .before .before .before .told .ensures .0, c .before .before .before .before .before .codes-count .ensures .0, c .before .before .before .before .before .before .type-in .ensures)
 
 pub fields-spec : {M : Type 1} → statement M
 fields-spec =
     tie.close
     (tie.spec
-    kind-requires
+    type-in-requires
     codes-count-requires
-    content-requires
-    digits-requires
+    told-requires
     time-requires
     certificate-requires
     signature-requires

@@ -21,14 +21,20 @@ mul-from c = search needs
 add-from : tie.Need-add-from
 add-from c = search needs
 
+lead-requires : tie.Need-lead-requires
+lead-requires c κs = search needs
+
+add-from-2 : tie.Need-add-from-2
+add-from-2 c = omega (arith, c .lead .ensures .1, c .before .codes-count .ensures .1)
+
 text-length-requires : tie.Need-text-length-requires
 text-length-requires c κs = search needs
 
 add-end : tie.Need-add-end
 add-end c =
-    let b = now (c .before .before .before .before .before .args .packet) in
-    let e = sym (c .before .before .before .text-answer .ensures) ∙ c .before .before .if1 .taken in
-    omega (arith, whole.text-end b _ _ (c .before .codes-count .ensures .0) e (c .text-length .ensures), whole.most b (whole.text-there b e .0))
+    let b = now (c .before .before .before .before .before .before .args .packet) in
+    let e = sym (c .before .before .before .before .text-answer .ensures) ∙ c .before .before .before .if1 .taken in
+    omega (arith, whole.text-end b _ _ (c .before .before .codes-count .ensures .0) _ (c .before .lead .ensures .0) e (c .text-length .ensures), whole.most b (whole.text-there b e .0))
 
 sub-result : tie.Need-sub-result
 sub-result c = search needs
@@ -38,9 +44,9 @@ part-result-start c = search needs
 
 part-result-end : tie.Need-part-result-end
 part-result-end c =
-    let b = now (c .before .before .before .before .before .args .packet) in
-    let e = sym (c .before .before .before .text-answer .ensures) ∙ c .before .before .if1 .taken in
-    whole.text-end b _ _ (c .before .codes-count .ensures .0) e (c .text-length .ensures)
+    let b = now (c .before .before .before .before .before .before .args .packet) in
+    let e = sym (c .before .before .before .before .text-answer .ensures) ∙ c .before .before .before .if1 .taken in
+    whole.text-end b _ _ (c .before .before .codes-count .ensures .0) _ (c .before .lead .ensures .0) e (c .text-length .ensures)
 
 sub-result-2 : tie.Need-sub-result-2
 sub-result-2 c = search needs
@@ -53,8 +59,8 @@ part-result-end-2 c = search needs
 
 returns : tie.Need-returns
 returns c =
-    let b = now (c .before .before .before .before .before .before .args .packet) in
-    whole.text-part b _ _ (c .before .before .codes-count .ensures .0) (sym (c .before .before .before .before .text-answer .ensures) ∙ c .before .before .before .if1 .taken) (c .before .text-length .ensures)
+    let b = now (c .before .before .before .before .before .before .before .args .packet) in
+    whole.text-part b _ _ (c .before .before .before .codes-count .ensures .0) _ (c .before .before .lead .ensures .0) (sym (c .before .before .before .before .before .text-answer .ensures) ∙ c .before .before .before .before .if1 .taken) (c .before .text-length .ensures)
 
 returns-2 : tie.Need-returns-2
 unfolding textOf
@@ -71,6 +77,8 @@ text-spec =
     codes-count-requires
     mul-from
     add-from
+    lead-requires
+    add-from-2
     text-length-requires
     add-end
     sub-result

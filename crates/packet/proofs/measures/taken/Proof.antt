@@ -7,7 +7,7 @@ use Rattle.packet.proofs.measures.taken.Statement.{statement}
 use Rattle.packet.proofs.measures.taken.Tie as tie
 
 returns : tie.Need-returns
-returns c = (sym (if-yes (c .before .args .t .n) 0 (c .if1 .taken)), sound-is (c .before .args .t) (c .before .pre) .few)
+returns c = (sym (if-yes (c .before .args .t .count) 0 (c .if1 .taken)), sound-is (c .before .args .t) (c .before .pre) .few)
 
 returns-2 : tie.Need-returns-2
 returns-2 c = search needs

@@ -1,5 +1,14 @@
 -- `reader::parts::content` meets its contract. Assumes nothing.
+use mathlib.Core.Path.{ap, _∙_}
+use Prim.Native.Nat.{_+_, _*_}
+use native.Mathlib.Omega.{arith}
+use denote.Ref.{now}
+use lib.ListN.{take}
+use Rattle.laws.specs.Scan.{all}
+use Rattle.format.specs.Format.{sound}
 use Rattle.packet.specs.Reading.{frontIn}
+use Rattle.packet.proofs.Good.{good}
+use Rattle.reader.proofs.Taking.{held-front, content-front}
 use borrow.Author.Needs.{needs}
 use Rattle.reader.proofs.parts.content.Statement.{statement}
 use Rattle.reader.proofs.parts.content.Tie as tie
@@ -10,22 +19,38 @@ codes-count-requires c κs = search needs
 count-requires : tie.Need-count-requires
 count-requires c κs = search needs
 
-form-requires : tie.Need-form-requires
-form-requires c κs = search needs
+kind-requires : tie.Need-kind-requires
+kind-requires c κs = search needs
 
-mul-typed : tie.Need-mul-typed
-mul-typed c = search needs
+row-of-requires : tie.Need-row-of-requires
+row-of-requires c κs = search needs
 
-add-typed : tie.Need-add-typed
-add-typed c = search needs
+mul-numbers-at : tie.Need-mul-numbers-at
+mul-numbers-at c = search needs
 
-typed-requires : tie.Need-typed-requires
-typed-requires c κs = search needs
+add-numbers-at : tie.Need-add-numbers-at
+add-numbers-at c = search needs
+
+numbers-at-requires : tie.Need-numbers-at-requires
+numbers-at-requires c κs =
+    let s = c .before .row-of .ensures in
+    (s .first .few, ap (all sound) (s .first .lines) ∙ good (c .before .before .kind .result) .before, omega (arith, c .before .before .before .before .codes-count .ensures .1))
+
+slice-aggregate-named : tie.Need-slice-aggregate-named
+slice-aggregate-named c = search needs
+
+named-requires : tie.Need-named-requires
+named-requires c κs =
+    let s = c .before .before .before .row-of .result .before in
+    held-front (c .before .before .before .before .kind .result) (now (c .before .before .before .before .before .before .before .before .args .b)) (24 + 96 * c .before .before .before .before .before .before .codes-count .result) (take (s .m) (s .all)) (c .before .numbers-at .result) (c .before .before .before .row-of .ensures .first .lines) (c .before .numbers-at .ensures)
 
 returns : tie.Need-returns
 unfolding frontIn
 returns c =
-    rw (c .typed .ensures, c .before .form .ensures, c .before .before .count .ensures, c .before .before .before .codes-count .ensures .0)
+    let s = c .before .before .before .before .row-of .result .before in
+    c .named .ensures .0
+    ∙ content-front (c .before .before .before .before .before .kind .result) (now (c .before .before .before .before .before .before .before .before .before .args .b)) (24 + 96 * c .before .before .before .before .before .before .before .codes-count .result) (take (s .m) (s .all)) (c .before .before .numbers-at .result) (c .before .before .before .before .row-of .ensures .first .lines) (c .before .before .numbers-at .ensures) (c .before .before .before .before .before .before .count .result)
+    ∙ rw (c .before .before .before .before .before .kind .ensures, c .before .before .before .before .before .before .count .ensures, c .before .before .before .before .before .before .before .codes-count .ensures .0)
 
 pub content-spec : {M : Type 1} → statement M
 content-spec =
@@ -33,8 +58,11 @@ content-spec =
     (tie.spec
     codes-count-requires
     count-requires
-    form-requires
-    mul-typed
-    add-typed
-    typed-requires
+    kind-requires
+    row-of-requires
+    mul-numbers-at
+    add-numbers-at
+    numbers-at-requires
+    slice-aggregate-named
+    named-requires
     returns)

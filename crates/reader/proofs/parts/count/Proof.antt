@@ -16,8 +16,8 @@ mul-q c = search needs
 add-q : tie.Need-add-q
 add-q c = search needs
 
-form-requires : tie.Need-form-requires
-form-requires c κs = search needs
+kind-requires : tie.Need-kind-requires
+kind-requires c κs = search needs
 
 content-size-requires : tie.Need-content-size-requires
 content-size-requires c κs = search needs
@@ -26,7 +26,7 @@ count-in-requires : tie.Need-count-in-requires
 count-in-requires c κs = omega (arith, c .before .before .codes-count .ensures .1)
 
 returns : tie.Need-returns
-returns c = c .count-in .ensures ∙ whole.count-at (now (c .before .before .before .before .before .args .b)) (c .before .before .form .result) (c .before .before .before .codes-count .result) (c .before .content-size .result) (c .before .before .form .ensures) (c .before .before .before .codes-count .ensures .0) (c .before .content-size .ensures)
+returns c = c .count-in .ensures ∙ whole.count-at (now (c .before .before .before .before .before .args .b)) (c .before .before .kind .result) (c .before .before .before .codes-count .result) (c .before .content-size .result) (c .before .before .kind .ensures) (c .before .before .before .codes-count .ensures .0) (c .before .content-size .ensures)
 
 pub count-spec : {M : Type 1} → statement M
 count-spec =
@@ -35,7 +35,7 @@ count-spec =
     codes-count-requires
     mul-q
     add-q
-    form-requires
+    kind-requires
     content-size-requires
     count-in-requires
     returns)

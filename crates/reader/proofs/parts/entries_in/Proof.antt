@@ -1,83 +1,67 @@
 -- `reader::parts::entries_in` meets its contract. Assumes nothing.
-use mathlib.Core.Path.{_≡_, refl, sym, _∙_}
-use Prim.Native.Nat.{_+_, _*_, _-_, _≤_}
-use denote.Ref.{now}
+use mathlib.Core.Path.{sym, ap, _∙_}
+use mathlib.Core.List.{List}
 use native.Mathlib.Omega.{arith}
-use lib.ListN.{length}
 use lib.Seq.{sets}
-use Rattle.format.specs.Format.{size, times}
-use Rattle.packet.specs.declared.Form.the-variants as form
-use Rattle.packet.specs.Table.{rowOf}
+use denote.Ref.{now}
+use Rattle.laws.specs.Scan.{all}
+use Rattle.format.specs.declared.Line.{Line}
+use Rattle.format.specs.Format.{sound, size, need, times}
+use Rattle.packet.specs.declared.Sizes.{Sizes}
 use Rattle.packet.specs.Reading.{numbersAt}
-use Rattle.reader.proofs.Rows as rows
-use native.Mathlib.Nat.{sub-zero}
+use Rattle.packet.proofs.Good.{good}
+use Rattle.reader.specs.Taking.{widths, ofByte}
+use Rattle.reader.proofs.Whole as whole
+use Rattle.reader.proofs.Taking.{bytes-of}
 use borrow.Author.Needs.{needs}
 use Rattle.reader.proofs.parts.entries_in.Statement.{statement}
 use Rattle.reader.proofs.parts.entries_in.Tie as tie
 
-abbrev Inv-loop : tie.InvT-loop
-Inv-loop b p k out₀ q₀ i₀ j₀ out q i j = (q ≡ p + 40 * j) × (i ≡ 8 * j) × (j ≤ k) × (length out ≡ 272) × (sets out₀ 0 (numbersAt (times k (rowOf form.Frequencies .each)) b p) ≡ sets out i (numbersAt (times (k - j) (rowOf form.Frequencies .each)) b q))
+row-of-requires : tie.Need-row-of-requires
+row-of-requires c κs = search needs
 
-abbrev μ-loop : tie.MeasureT-loop
-μ-loop b p k out₀ q₀ i₀ j₀ out q i j = k - j
+sizes-of-requires : tie.Need-sizes-of-requires
+sizes-of-requires c κs = search needs
 
-zeros272-requires : tie.Need-zeros272-requires Inv-loop μ-loop
+zeros272-requires : tie.Need-zeros272-requires
 zeros272-requires c κs = search needs
 
-loop-holds : tie.Need-loop-holds Inv-loop μ-loop
-loop-holds c = (omega arith, refl, omega arith, rows.length-zeros 272 (c .zeros272 .result) (c .zeros272 .ensures), rw (sub-zero (c .before .before .args .k)))
+slice-aggregate-take-rows : tie.Need-slice-aggregate-take-rows
+slice-aggregate-take-rows c = search needs
 
-slice-aggregate-entry : tie.Need-slice-aggregate-entry Inv-loop μ-loop
-slice-aggregate-entry c = sym (c .before .before .loop .inv .3)
+take-rows-requires : tie.Need-take-rows-requires
+take-rows-requires c κs =
+    let f = c .before .before .before .before .before .before .args .f in
+    let s = c .before .before .before .before .row-of .ensures .rows in
+    let z = c .before .before .before .sizes-of .result in
+    let e = c .before .before .before .sizes-of .ensures in
+    let y = whole.sizes f z e in
+    let r = ap (λ (x : Sizes). x .row) e in
+    record {
+      few = s .few;
+      lines = ap (all sound) (s .lines) ∙ good f .each;
+      narrow = ap (λ (T : List Line). all ofByte (widths T)) (s .lines) ∙ bytes-of f .each;
+      sized = y .each ∙ sym (ap size (s .lines));
+      short = omega (arith, y .each-most);
+      each = r ∙ sym (ap need (s .lines));
+      small = omega (arith, r, good f .entry);
+      many = c .before .before .before .before .before .before .pre .1;
+      place = c .before .before .before .before .before .before .pre .0;
+    }
 
-entry-requires : tie.Need-entry-requires Inv-loop μ-loop
-entry-requires c κs = (omega arith, omega arith)
-
-add-q : tie.Need-add-q Inv-loop μ-loop
-add-q c = omega arith
-
-add-i : tie.Need-add-i Inv-loop μ-loop
-add-i c = omega arith
-
-add-j : tie.Need-add-j Inv-loop μ-loop
-add-j c = omega arith
-
-loop-less : tie.Need-loop-less Inv-loop μ-loop
-loop-less c = search needs
-
-loop-again : tie.Need-loop-again Inv-loop μ-loop
-unfolding size
-loop-again c =
-    let a = c .before .before .before .before .before .before .before .args in
-    let k = c .before .before .before .before .loop in
-    let b = now (a .b) in
-    let xs = numbersAt (rowOf form.Frequencies .each) b (k .q) in (
-      omega arith,
-      omega arith,
-      omega arith,
-      rows.kept 272 (k .out) (c .before .entry .last .1 .1 .0) xs (k .i) (k .inv .3) (c .before .entry .ensures),
-      rows.rows-turn (rowOf form.Frequencies .each) b (k .out) (c .before .entry .last .1 .1 .0) _ xs (a .k) (k .j) (k .q) (k .i) 40 8 (omega arith) refl (rows.entry-long b (k .q)) refl (k .inv .4) (c .before .entry .ensures),
-    )
-
-returns : tie.Need-returns Inv-loop μ-loop
+returns : tie.Need-returns
 returns c =
-    let a = c .before .before .before .before .args in
-    let k = c .before .loop in
-    rows.rows-end (rowOf form.Frequencies .each) (now (a .b)) (k .out) _ (a .k) (k .j) (k .q) (k .i) (omega arith) (k .inv .4) ∙ rw (c .before .before .zeros272 .ensures)
+    let a = c .before .before .before .before .before .before .before .before .args in
+    let t = c .before .before .before .before .before .before .row-of .result .each in
+    c .before .take-rows .ensures ∙ ap (λ (T : List Line). sets (c .before .before .before .zeros272 .result) 0 (numbersAt (times (a .k) T) (now (a .b)) (a .p))) (c .before .before .before .before .before .before .row-of .ensures .rows .lines) ∙ rw (c .before .before .before .zeros272 .ensures)
 
 pub entries-in-spec : {M : Type 1} → statement M
 entries-in-spec =
     tie.close
     (tie.spec
-    Inv-loop
-    μ-loop
+    row-of-requires
+    sizes-of-requires
     zeros272-requires
-    loop-holds
-    slice-aggregate-entry
-    entry-requires
-    add-q
-    add-i
-    add-j
-    loop-less
-    loop-again
+    slice-aggregate-take-rows
+    take-rows-requires
     returns)

@@ -2,10 +2,10 @@
 use mathlib.Core.Path.{_≡_, subst}
 use native.Mathlib.Omega.{arith}
 use lib.ListN.{length}
-use Rattle.packet.specs.declared.Form.{Form}
-use Rattle.packet.specs.Shape.{Listed}
+use Rattle.packet.specs.declared.Kind.{Kind}
+use Rattle.packet.specs.InCode.{Listed}
 use Rattle.packet.specs.Table.{rowOf}
-use Rattle.packet.specs.Content.{formFor}
+use Rattle.packet.specs.Content.{kindFor}
 use Rattle.packet.specs.Writing.{rowFor}
 use Rattle.writer.specs.Parts.{backBits}
 use Rattle.packet.proofs.Good.{good}
@@ -15,8 +15,8 @@ use borrow.Author.Needs.{needs}
 use Rattle.writer.proofs.content.put_back.Statement.{statement}
 use Rattle.writer.proofs.content.put_back.Tie as tie
 
-form-for-requires : tie.Need-form-for-requires
-form-for-requires c κs = search needs
+kind-for-requires : tie.Need-kind-for-requires
+kind-for-requires c κs = search needs
 
 row-of-requires : tie.Need-row-of-requires
 row-of-requires c κs = search needs
@@ -32,8 +32,8 @@ slice-aggregate-put-lines c = search needs
 
 put-lines-requires : tie.Need-put-lines-requires
 put-lines-requires c κs =
-    let w : Listed (c .before .before .before .before .before .row-of .result .after) (rowFor (c .before .before .before .before .before .before .before .before .args .c) .after) = subst (λ (f : Form). Listed (c .before .before .before .before .before .row-of .result .after) (rowOf f .after)) (c .before .before .before .before .before .before .form-for .ensures) (c .before .before .before .before .before .row-of .ensures .last) in
-    let z = good (formFor (c .before .before .before .before .before .before .before .before .args .c)) in
+    let w : Listed (c .before .before .before .before .before .row-of .result .after) (rowFor (c .before .before .before .before .before .before .before .before .args .c) .after) = subst (λ (f : Kind). Listed (c .before .before .before .before .before .row-of .result .after) (rowOf f .after)) (c .before .before .before .before .before .before .kind-for .ensures) (c .before .before .before .before .before .row-of .ensures .last) in
+    let z = good (kindFor (c .before .before .before .before .before .before .before .before .args .c)) in
     let n = z .last in
     let l = c .before .before .widened .ensures .1 in
     can-put _ _ w (z .after) _ _ (omega arith) (omega arith) (omega (arith, c .before .before .before .before .before .before .before .before .pre))
@@ -44,7 +44,7 @@ same-length c = search needs
 returns : tie.Need-returns
 unfolding backBits
 returns c =
-    let w : Listed (c .before .before .before .before .before .before .before .before .row-of .result .after) (rowFor (c .before .before .before .before .before .before .before .before .before .before .before .args .c) .after) = subst (λ (f : Form). Listed (c .before .before .before .before .before .before .before .before .row-of .result .after) (rowOf f .after)) (c .before .before .before .before .before .before .before .before .before .form-for .ensures) (c .before .before .before .before .before .before .before .before .row-of .ensures .last) in
+    let w : Listed (c .before .before .before .before .before .before .before .before .row-of .result .after) (rowFor (c .before .before .before .before .before .before .before .before .before .before .before .args .c) .after) = subst (λ (f : Kind). Listed (c .before .before .before .before .before .before .before .before .row-of .result .after) (rowOf f .after)) (c .before .before .before .before .before .before .before .before .before .kind-for .ensures) (c .before .before .before .before .before .before .before .before .row-of .ensures .last) in
     let d : length (c .before .before .before .before .before .before .before .before .before .before .before .args .t4) ≡ 35 = search needs in
     have-put _ _ w _ _ (c .before .before .before .before .before .widened .result) _ _ _ (back-fill (c .before .before .before .before .before .before .before .before .before .before .before .args .c) (c .before .before .before .before .before .before .before .before .before .before .before .args .t4) d (c .before .before .before .before .before .widened .result) (c .before .before .before .before .before .widened .ensures .0) (c .before .before .before .before .before .widened .ensures .1)) (c .before .before .put-lines .ensures)
 
@@ -52,7 +52,7 @@ pub put-back-spec : {M : Type 1} → statement M
 put-back-spec =
     tie.close
     (tie.spec
-    form-for-requires
+    kind-for-requires
     row-of-requires
     slice-aggregate-widened
     widened-requires

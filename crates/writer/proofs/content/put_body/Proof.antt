@@ -8,10 +8,10 @@ use mathlib.Core.List.{List}
 use Prim.Native.Nat.{ℕ, _*_}
 use native.Mathlib.Omega.{arith}
 use lib.ListN.{length}
-use Rattle.packet.specs.declared.Form.{Form}
-use Rattle.packet.specs.Shape.{Listed}
+use Rattle.packet.specs.declared.Kind.{Kind}
+use Rattle.packet.specs.InCode.{Listed}
 use Rattle.packet.specs.Table.{rowOf}
-use Rattle.packet.specs.Content.{formFor}
+use Rattle.packet.specs.Content.{kindFor}
 use Rattle.packet.specs.Reading.{sizesOf, hasEntries}
 use Rattle.packet.specs.Writing.{rowFor}
 use Rattle.packet.proofs.Good.{good}
@@ -21,8 +21,8 @@ use borrow.Author.Needs.{needs}
 use Rattle.writer.proofs.content.put_body.Statement.{statement}
 use Rattle.writer.proofs.content.put_body.Tie as tie
 
-form-for-requires : tie.Need-form-for-requires
-form-for-requires c κs = search needs
+kind-for-requires : tie.Need-kind-for-requires
+kind-for-requires c κs = search needs
 
 has-entries-requires : tie.Need-has-entries-requires
 has-entries-requires c κs = search needs
@@ -39,19 +39,19 @@ count-for-requires c κs = search needs
 put-rows-requires : tie.Need-put-rows-requires
 put-rows-requires c κs =
     let x = c .before .before .before .before .before .before .before .before .before .before .args in
-    let f = c .before .before .before .before .before .before .before .form-for .ensures in
-    let w : Listed (c .before .before .before .before .row-of .result .each) (rowFor (x .c) .each) = subst (λ (f : Form). Listed (c .before .before .before .before .row-of .result .each) (rowOf f .each)) f (c .before .before .before .before .row-of .ensures .rows) in
+    let f = c .before .before .before .before .before .before .before .kind-for .ensures in
+    let w : Listed (c .before .before .before .before .row-of .result .each) (rowFor (x .c) .each) = subst (λ (f : Kind). Listed (c .before .before .before .before .row-of .result .each) (rowOf f .each)) f (c .before .before .before .before .row-of .ensures .rows) in
     let z = c .before .before .before .sizes-of .ensures ∙ ap sizesOf f in
     let r = row-is (x .c) _ z in
     let h = c .before .before .before .before .before .before .before .before .before .before .pre .0 in
     let k = c .before .count-for .ensures in
-    let g = good (formFor (x .c)) in
+    let g = good (kindFor (x .c)) in
     can-put-rows _ _ w (g .each) _ _ _ _ (sym r) (omega (arith, row-few (x .c) _ z)) (omega (arith, g .row)) (omega (arith, h .few, k)) (rw (k, r) (h .numbers)) (c .before .before .before .before .before .before .before .before .before .before .pre .1)
 
 put-octets-requires : tie.Need-put-octets-requires
 put-octets-requires c κs =
     let x = c .before .before .before .before .before .before .args in
-    let n : hasEntries (formFor (x .c)) ≡ false = sym (c .before .before .has-entries .ensures ∙ ap hasEntries (c .before .before .before .form-for .ensures)) ∙ c .before .if1 .left in
+    let n : hasEntries (kindFor (x .c)) ≡ false = sym (c .before .before .has-entries .ensures ∙ ap hasEntries (c .before .before .before .kind-for .ensures)) ∙ c .before .if1 .left in
     (octets-body (x .c) (x .body .now) (c .before .before .before .before .before .before .pre .0) n .2, omega (arith, c .before .before .before .before .before .before .pre .1))
 
 same-length : tie.Need-same-length
@@ -60,7 +60,7 @@ same-length c = search needs
 returns : tie.Need-returns
 returns c =
     let x = c .before .before .before .before .before .before .before .before .before .before .before .before .before .args in
-    let w : Listed (c .before .before .before .before .before .before .before .row-of .result .each) (rowFor (x .c) .each) = subst (λ (f : Form). Listed (c .before .before .before .before .before .before .before .row-of .result .each) (rowOf f .each)) (c .before .before .before .before .before .before .before .before .before .before .form-for .ensures) (c .before .before .before .before .before .before .before .row-of .ensures .rows) in
+    let w : Listed (c .before .before .before .before .before .before .before .row-of .result .each) (rowFor (x .c) .each) = subst (λ (f : Kind). Listed (c .before .before .before .before .before .before .before .row-of .result .each) (rowOf f .each)) (c .before .before .before .before .before .before .before .before .before .before .kind-for .ensures) (c .before .before .before .before .before .before .before .row-of .ensures .rows) in
     entries-body (x .c) _ _ (x .body .now) _ _ _ (c .before .before .before .before .before .before .before .before .before .before .before .before .before .pre .0) (c .before .before .before .before .count-for .ensures) (have-put-rows _ _ w _ _ _ _ _ _ (c .before .before .put-rows .ensures))
 
 same-length-2 : tie.Need-same-length-2
@@ -69,7 +69,7 @@ same-length-2 c = search needs
 returns-2 : tie.Need-returns-2
 returns-2 c =
     let x = c .before .before .before .before .before .before .before .before .before .args in
-    let n : hasEntries (formFor (x .c)) ≡ false = sym (c .before .before .before .before .before .has-entries .ensures ∙ ap hasEntries (c .before .before .before .before .before .before .form-for .ensures)) ∙ c .before .before .before .before .if1 .left in
+    let n : hasEntries (kindFor (x .c)) ≡ false = sym (c .before .before .before .before .before .has-entries .ensures ∙ ap hasEntries (c .before .before .before .before .before .before .kind-for .ensures)) ∙ c .before .before .before .before .if1 .left in
     let o = octets-body (x .c) (x .body .now) (c .before .before .before .before .before .before .before .before .before .pre .0) n in
     subst (λ (s : ℕ). After (x .out .now) (c .before .before .put-octets .last .0) (x .p) (bodyBits (x .c) (x .body .now)) (c .before .before .put-octets .result) s) (o .1)
     (subst (λ (v : List ℕ). After (x .out .now) (c .before .before .put-octets .last .0) (x .p) v (c .before .before .put-octets .result) (8 * length (x .body .now))) (o .0) (c .before .before .put-octets .ensures))
@@ -78,7 +78,7 @@ pub put-body-spec : {M : Type 1} → statement M
 put-body-spec =
     tie.close
     (tie.spec
-    form-for-requires
+    kind-for-requires
     has-entries-requires
     row-of-requires
     sizes-of-requires

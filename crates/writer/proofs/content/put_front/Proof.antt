@@ -4,11 +4,11 @@ use mathlib.Core.List.{[]}
 use native.Mathlib.Omega.{arith}
 use lib.ListN.{length}
 use Rattle.format.specs.Format.{size, encode, fill}
-use Rattle.packet.specs.declared.Form.{Form}
-use Rattle.packet.specs.declared.Sort.{Sort}
-use Rattle.packet.specs.Shape.{Listed}
+use Rattle.packet.specs.declared.Kind.{Kind}
+use Rattle.packet.specs.declared.Counting.{Counting}
+use Rattle.packet.specs.InCode.{Listed}
 use Rattle.packet.specs.Table.{rowOf, countLine}
-use Rattle.packet.specs.Content.{formFor}
+use Rattle.packet.specs.Content.{kindFor}
 use Rattle.packet.specs.Writing.{rowFor, frontFor}
 use Rattle.writer.specs.Puts.{After}
 use Rattle.writer.specs.Parts.{frontBits, frontSize}
@@ -20,8 +20,8 @@ use borrow.Author.Needs.{needs}
 use Rattle.writer.proofs.content.put_front.Statement.{statement}
 use Rattle.writer.proofs.content.put_front.Tie as tie
 
-form-for-requires : tie.Need-form-for-requires
-form-for-requires c κs = search needs
+kind-for-requires : tie.Need-kind-for-requires
+kind-for-requires c κs = search needs
 
 row-of-requires : tie.Need-row-of-requires
 row-of-requires c κs = search needs
@@ -34,16 +34,16 @@ slice-aggregate-put-lines c = search needs
 
 put-lines-requires : tie.Need-put-lines-requires
 put-lines-requires c κs =
-    let w : Listed (c .before .before .before .before .row-of .result .before) (rowFor (c .before .before .before .before .before .before .before .args .c) .before) = subst (λ (f : Form). Listed (c .before .before .before .before .row-of .result .before) (rowOf f .before)) (c .before .before .before .before .before .form-for .ensures) (c .before .before .before .before .row-of .ensures .first) in
-    let z = good (formFor (c .before .before .before .before .before .before .before .args .c)) in
+    let w : Listed (c .before .before .before .before .row-of .result .before) (rowFor (c .before .before .before .before .before .before .before .args .c) .before) = subst (λ (f : Kind). Listed (c .before .before .before .before .row-of .result .before) (rowOf f .before)) (c .before .before .before .before .before .kind-for .ensures) (c .before .before .before .before .row-of .ensures .first) in
+    let z = good (kindFor (c .before .before .before .before .before .before .before .args .c)) in
     let n = numbers-fit (c .before .before .before .before .before .before .before .args .c) in
     let l = c .before .before .front-of .ensures .long in
     can-put _ _ w (z .before) _ _ (omega (arith, n .1, n .2)) (omega arith) (omega (arith, c .before .before .before .before .before .before .before .pre .1))
 
 put-count-requires : tie.Need-put-count-requires
 put-count-requires c κs =
-    let w : Listed (c .before .before .before .before .before .before .before .before .row-of .result .before) (rowFor (c .before .before .before .before .before .before .before .before .before .before .before .args .c) .before) = subst (λ (f : Form). Listed (c .before .before .before .before .before .before .before .before .row-of .result .before) (rowOf f .before)) (c .before .before .before .before .before .before .before .before .before .form-for .ensures) (c .before .before .before .before .before .before .before .before .row-of .ensures .first) in
-    (c .before .before .before .before .before .before .before .before .before .before .before .pre .0, omega (arith, c .before .before .before .put-lines .ensures .place, ap size (w .lines), good (formFor (c .before .before .before .before .before .before .before .before .before .before .before .args .c)) .first, c .before .before .before .before .before .before .before .before .before .before .before .pre .1))
+    let w : Listed (c .before .before .before .before .before .before .before .before .row-of .result .before) (rowFor (c .before .before .before .before .before .before .before .before .before .before .before .args .c) .before) = subst (λ (f : Kind). Listed (c .before .before .before .before .before .before .before .before .row-of .result .before) (rowOf f .before)) (c .before .before .before .before .before .before .before .before .before .kind-for .ensures) (c .before .before .before .before .before .before .before .before .row-of .ensures .first) in
+    (c .before .before .before .before .before .before .before .before .before .before .before .pre .0, omega (arith, c .before .before .before .put-lines .ensures .place, ap size (w .lines), good (kindFor (c .before .before .before .before .before .before .before .before .before .before .before .args .c)) .first, c .before .before .before .before .before .before .before .before .before .before .before .pre .1))
 
 same-length : tie.Need-same-length
 same-length c = search needs
@@ -52,13 +52,13 @@ returns : tie.Need-returns
 unfolding frontBits frontSize
 returns c =
     let x = c .before .before .before .before .before .before .before .before .before .before .before .before .before .before .args in
-    let w : Listed (c .before .before .before .before .before .before .before .before .before .before .before .row-of .result .before) (rowFor (x .c) .before) = subst (λ (f : Form). Listed (c .before .before .before .before .before .before .before .before .before .before .before .row-of .result .before) (rowOf f .before)) (c .before .before .before .before .before .before .before .before .before .before .before .before .form-for .ensures) (c .before .before .before .before .before .before .before .before .before .before .before .row-of .ensures .first) in
+    let w : Listed (c .before .before .before .before .before .before .before .before .before .before .before .row-of .result .before) (rowFor (x .c) .before) = subst (λ (f : Kind). Listed (c .before .before .before .before .before .before .before .before .before .before .before .row-of .result .before) (rowOf f .before)) (c .before .before .before .before .before .before .before .before .before .before .before .before .kind-for .ensures) (c .before .before .before .before .before .before .before .before .before .before .before .row-of .ensures .first) in
     let d : length (x .digits) ≡ 35 = search needs in
-    let s : c .before .before .before .before .before .before .before .before .before .before .before .row-of .result .sort ≡ rowFor (x .c) .sort = c .before .before .before .before .before .before .before .before .before .before .before .row-of .ensures .same ∙ ap (λ (f : Form). rowOf f .sort) (c .before .before .before .before .before .before .before .before .before .before .before .before .form-for .ensures) in
+    let s : c .before .before .before .before .before .before .before .before .before .before .before .row-of .result .counting ≡ rowFor (x .c) .counting = c .before .before .before .before .before .before .before .before .before .before .before .row-of .ensures .same ∙ ap (λ (f : Kind). rowOf f .counting) (c .before .before .before .before .before .before .before .before .before .before .before .before .kind-for .ensures) in
     let a : After (x .out .now) (c .before .before .before .before .before .before .put-lines .last .0) (x .p) (encode (rowFor (x .c) .before) (fill (rowFor (x .c) .before) (frontFor (x .c) (x .digits)))) (c .before .before .before .before .before .before .put-lines .result) (size (rowFor (x .c) .before)) =
     have-put _ _ w _ _ (c .before .before .before .before .before .before .before .before .before .front-of .result) _ _ _ (front-fill (x .c) (x .digits) d (c .before .before .before .before .before .before .before .before .before .front-of .result) (c .before .before .before .before .before .before .before .before .before .front-of .ensures)) (c .before .before .before .before .before .before .put-lines .ensures) in
-    let b : After (c .before .before .before .before .before .before .put-lines .last .0) (c .before .before .put-count .last .0) (c .before .before .before .before .before .before .put-lines .result) (encode (countLine (rowFor (x .c) .sort) (x .k)) (fill (countLine (rowFor (x .c) .sort) (x .k)) [])) (c .before .before .put-count .result) (size (countLine (rowFor (x .c) .sort) (x .k))) =
-    subst (λ (t : Sort). After (c .before .before .before .before .before .before .put-lines .last .0) (c .before .before .put-count .last .0) (c .before .before .before .before .before .before .put-lines .result) (encode (countLine t (x .k)) (fill (countLine t (x .k)) [])) (c .before .before .put-count .result) (size (countLine t (x .k)))) s (c .before .before .put-count .ensures) in
+    let b : After (c .before .before .before .before .before .before .put-lines .last .0) (c .before .before .put-count .last .0) (c .before .before .before .before .before .before .put-lines .result) (encode (countLine (rowFor (x .c) .counting) (x .k)) (fill (countLine (rowFor (x .c) .counting) (x .k)) [])) (c .before .before .put-count .result) (size (countLine (rowFor (x .c) .counting) (x .k))) =
+    subst (λ (t : Counting). After (c .before .before .before .before .before .before .put-lines .last .0) (c .before .before .put-count .last .0) (c .before .before .before .before .before .before .put-lines .result) (encode (countLine t (x .k)) (fill (countLine t (x .k)) [])) (c .before .before .put-count .result) (size (countLine t (x .k)))) s (c .before .before .put-count .ensures) in
     let e = length-front (x .c) (x .digits) d in
     then-put _ _ _ _ _ _ _ _ _ _ (encode-size (rowFor (x .c) .before) (frontFor (x .c) (x .digits)) (omega arith)) a b
 
@@ -66,7 +66,7 @@ pub put-front-spec : {M : Type 1} → statement M
 put-front-spec =
     tie.close
     (tie.spec
-    form-for-requires
+    kind-for-requires
     row-of-requires
     front-of-requires
     slice-aggregate-put-lines

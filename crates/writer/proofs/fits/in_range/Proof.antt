@@ -13,10 +13,10 @@ use Rattle.writer.proofs.fits.in_range.Statement.{statement}
 use Rattle.writer.proofs.fits.in_range.Tie as tie
 
 abbrev Inv-loop : tie.InvT-loop
-Inv-loop t xs i n lo hi j₀ j = (j ≤ t .n) × (inside (t .lo) (t .hi) (valueOf t (drop i xs)) ≡ inside (t .lo) (t .hi) (drop j (valueOf t (drop i xs))))
+Inv-loop t xs i n lo hi j₀ j = (j ≤ t .count) × (inside (t .lo) (t .hi) (valueOf t (drop i xs)) ≡ inside (t .lo) (t .hi) (drop j (valueOf t (drop i xs))))
 
 abbrev μ-loop : tie.MeasureT-loop
-μ-loop t xs i n lo hi j₀ j = t .n - j
+μ-loop t xs i n lo hi j₀ j = t .count - j
 
 loop-holds : tie.Need-loop-holds Inv-loop μ-loop
 loop-holds c = (omega arith, refl)

@@ -56,7 +56,7 @@ returns c =
     let d : length (f .digits) ≡ 35 = search (needs, c .before .before .before .before .before .before .before .before .before .before .before .before .before .before .before .before .before .before .before .before .before .before .before .good) in
     let lc : length (f .certificate) ≡ 12 = search (needs, c .before .before .before .before .before .before .before .before .before .before .before .before .before .before .before .before .before .before .before .before .before .before .before .good) in
     let ls : length (f .signature) ≡ 64 = search (needs, c .before .before .before .before .before .before .before .before .before .before .before .before .before .before .before .before .before .before .before .before .before .before .before .good) in
-    let h = subst (λ (s : ℕ). After (x .out .now) (c .before .before .before .before .before .before .before .before .before .before .before .before .before .before .put-head .last .0) 0 (headBits (f .kind) s (f .codes)) (c .before .before .before .before .before .before .before .before .before .before .before .before .before .before .put-head .result) 24) (c .before .before .before .before .before .before .before .before .before .before .before .before .before .before .before .before .before .before .before .before .before .before .before .pre .1) (c .before .before .before .before .before .before .before .before .before .before .before .before .before .before .put-head .ensures) in
+    let h = subst (λ (s : ℕ). After (x .out .now) (c .before .before .before .before .before .before .before .before .before .before .before .before .before .before .put-head .last .0) 0 (headBits (f .typenumber) s (f .codes)) (c .before .before .before .before .before .before .before .before .before .before .before .before .before .before .put-head .result) 24) (c .before .before .before .before .before .before .before .before .before .before .before .before .before .before .before .before .before .before .before .before .before .before .before .pre .1) (c .before .before .before .before .before .before .before .before .before .before .before .before .before .before .put-head .ensures) in
     packet-put f (x .codes .now) (x .body .now) (c .before .before .before .before .before .before .before .before .before .before .before .before .before .before .before .before .before .before .before .before .before .before .before .pre .0 .counts) d lc ls _ (c .before .before .before .before .before .before .before .before .before .before .before .before .before .before .put-head .last .0) (c .before .before .before .before .before .before .before .before .before .before .put-rows .last .0) (c .before .before .before .before .before .before .put-content .last .0) _ _ _ _ _ h
     (have-put-rows _ _ (c .before .before .before .before .before .before .before .before .before .before .before .before .before .before .before .before .code-lines .ensures) _ _ _ _ _ _ (c .before .before .before .before .before .before .before .before .before .before .put-rows .ensures)) (c .before .before .before .before .before .before .put-content .ensures) (c .before .before .put-ending .ensures)
 

@@ -28,7 +28,7 @@ enum-told-4 : tie.Need-enum-told-4
 enum-told-4 c = search needs
 
 returns : tie.Need-returns
-returns c = no-count _ _ (c .before .before .before .args .k) (c .before .before .before .args .sort) (rw (c .enum-told .given .1))
+returns c = no-count _ _ (c .before .before .before .args .k) (c .before .before .before .args .counting) (rw (c .enum-told .given .1))
 
 same-length : tie.Need-same-length
 same-length c = same-long (c .before .before .put-field .last .0) (c .before .before .before .before .before .before .before .args .out .now) (c .before .before .before .before .before .before .before .args .p) (fieldBits (c .before .before .before .before .before .before .before .args .p) 8 (c .before .before .before .before .before .before .before .args .k)) (c .before .before .put-field .ensures)
@@ -37,10 +37,10 @@ returns-2 : tie.Need-returns-2
 returns-2 c = rw (c .before .before .before .before .enum-told2 .given .1) (count-put _ _ _ _ (c .before .before .before .before .before .before .before .pre .1) (c .before .before .put-field .ensures))
 
 returns-3 : tie.Need-returns-3
-returns-3 c = no-count _ _ (c .before .before .before .args .k) (c .before .before .before .args .sort) (rw (c .enum-told3 .given .1))
+returns-3 c = no-count _ _ (c .before .before .before .args .k) (c .before .before .before .args .counting) (rw (c .enum-told3 .given .1))
 
 returns-4 : tie.Need-returns-4
-returns-4 c = no-count _ _ (c .before .before .before .args .k) (c .before .before .before .args .sort) (rw (c .enum-told4 .given .1))
+returns-4 c = no-count _ _ (c .before .before .before .args .k) (c .before .before .before .args .counting) (rw (c .enum-told4 .given .1))
 
 pub put-count-spec : {M : Type 1} → statement M
 put-count-spec =

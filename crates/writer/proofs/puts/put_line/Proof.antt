@@ -11,7 +11,7 @@ abbrev Inv-loop : tie.InvT-loop
 Inv-loop out₀ p t xs i n w q₀ j₀ out q j = Going out₀ p t xs i out q j
 
 abbrev μ-loop : tie.MeasureT-loop
-μ-loop out₀ p t xs i n w q₀ j₀ out q j = t .n - j
+μ-loop out₀ p t xs i n w q₀ j₀ out q j = t .count - j
 
 loop-holds : tie.Need-loop-holds Inv-loop μ-loop
 loop-holds c = going-first _ _ _ _ _

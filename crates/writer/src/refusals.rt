@@ -1,0 +1,288 @@
+// What is wrong with fields: the answers 23, 26, 25, 27, 20 and 10, in that order.
+ghost use mathlib.Core.Path.{_≡_};
+ghost use mathlib.Core.Bool.{not, _&&_, true, false};
+ghost use Prim.Native.Nat.{_+_, _*_, _<_, _≤_};
+ghost use lib.ListN.{drop};
+ghost use Rattle.laws.specs.Refusals.{first};
+ghost use Rattle.format.specs.Format.{inside, need};
+ghost use Rattle.packet.specs.Content.{kindFor, noSuchDay};
+ghost use Rattle.packet.specs.Reading.{hasEntries};
+ghost use Rattle.packet.specs.Writing.{rowFor, lentBad, bodyLost, digitsLost, countBad, digitBad, notTaken, writeCases, writtenAnswer};
+ghost use lib.Dec.{leb, ltb, eqb};
+ghost use mathlib.Core.Logic.{_⊎_};
+ghost use Rattle.writer.specs.Parts.{Lent, Counts, bytesOf, somethingLost, frontFine, rowsFine, backFine};
+ghost use Rattle.writer.specs.Puts.{countLent};
+use crate::content;
+use crate::fits;
+use crate::puts;
+use packet::Content;
+use packet::Counting;
+use packet::Fields;
+
+// Each is lo to hi.
+fn all_inside(xs: &[u8], lo: u8, hi: u8) -> bool
+    ensures { λ r. ⌜ r ≡ inside lo hi (now (xs .entry)) ⌝ }
+{
+    let mut j: usize = 0;
+    while j < xs.len() {
+        let x = xs[j];
+        if x < lo {
+            return false;
+        }
+        if x > hi {
+            return false;
+        }
+        j += 1;
+    }
+    true
+}
+
+// The first lines, for an answer.
+fn front_fine(answer: u8, c: Content, digits: [u8; 35]) -> bool
+    ensures { λ r. ⌜ r ≡ frontFine answer c digits ⌝ }
+{
+    let s = packet::row_of(content::kind_for(c));
+    let before = s.before;
+    let front = content::front_of(c, digits);
+    fits::lines_fit(answer, before, &front)
+}
+
+// What is repeated: entries are tested, bytes are not.
+fn body_fine(answer: u8, c: Content, body: &[u8]) -> bool
+    requires { ⌜ ((answer ≡ 25) ⊎ (answer ≡ 27)) × (hasEntries (kindFor c) ≡ true → Lent c (now body)) ⌝ }
+    ensures { λ r. ⌜ r ≡ rowsFine answer c (now (body .entry)) ⌝ }
+{
+    let f = content::kind_for(c);
+    if packet::has_entries(f) {
+        let s = packet::row_of(f);
+        let z = packet::sizes_of(f);
+        let each = s.each;
+        let k = content::count_for(c, body.len());
+        fits::rows_fit(answer, each, k, z.row, body)
+    } else {
+        true
+    }
+}
+
+// The last lines.
+fn back_fine(answer: u8, c: Content, digits: [u8; 35]) -> bool
+    ensures { λ r. ⌜ r ≡ backFine answer c digits ⌝ }
+{
+    let s = packet::row_of(content::kind_for(c));
+    let after = s.after;
+    let back = puts::widened(&digits, 0, 35);
+    fits::lines_fit(answer, after, &back)
+}
+
+// No line of a content is due the answer.
+fn content_fine(answer: u8, c: Content, digits: [u8; 35], body: &[u8]) -> bool
+    requires { ⌜ ((answer ≡ 25) ⊎ (answer ≡ 27)) × (hasEntries (kindFor c) ≡ true → Lent c (now body)) ⌝ }
+    ensures { λ r. ⌜ r ≡ (frontFine answer c digits && (rowsFine answer c (now (body .entry)) && backFine answer c digits)) ⌝ }
+{
+    if !front_fine(answer, c, digits) {
+        return false;
+    }
+    if !body_fine(answer, c, body) {
+        return false;
+    }
+    back_fine(answer, c, digits)
+}
+
+// No digit is above 9, in codes, certificate, entries or beside the content.
+fn digits_fine(f: Fields, codes: &[u8], body: &[u8]) -> bool
+    requires { ⌜ Counts f (now codes) (now body) × (hasEntries (kindFor (f .content)) ≡ true → Lent (f .content) (now body)) ⌝ }
+    ensures { λ r. ⌜ r ≡ not (digitBad f (now (codes .entry)) (now (body .entry))) ⌝ }
+{
+    let c = f.content;
+    let digits = f.digits;
+    let certificate = f.certificate;
+    if !all_inside(&digits, 0, 9) {
+        return false;
+    }
+    if !all_inside(codes, 0, 9) {
+        return false;
+    }
+    if !all_inside(&certificate, 0, 9) {
+        return false;
+    }
+    content_fine(25, c, digits, body)
+}
+
+// The other digits are 0: what is not used could not be handed back.
+fn digits_kept(c: Content, digits: [u8; 35]) -> bool
+    ensures { λ r. ⌜ r ≡ not (digitsLost c digits) ⌝ }
+{
+    let used = content::digits_used(c);
+    all_inside(&digits[used..35], 0, 0)
+}
+
+// A body for a content that has none.
+fn body_lost(c: Content, lent: usize) -> bool
+    ensures { λ r. ⌜ r ≡ bodyLost (rowFor c .counting) lent ⌝ }
+{
+    let s = packet::row_of(content::kind_for(c));
+    let counting = s.counting;
+    match counting {
+        Counting::Fixed => lent != 0,
+        Counting::Counted => false,
+        Counting::Raw => false,
+        Counting::Unknown => false,
+    }
+}
+
+// A count above 255, or rows of w numbers that are not all that is lent.
+fn rows_bad(k: usize, w: usize, lent: usize) -> bool
+    requires { ⌜ w ≤ 8 ⌝ }
+    ensures { λ r. ⌜ r ≡ not (leb k 255 && eqb lent (k * w)) ⌝ }
+{
+    if k > 255 {
+        return true;
+    }
+    lent != k * w
+}
+
+// A count that is wrong for what is lent.
+fn lent_bad(c: Content, lent: usize) -> bool
+    ensures { λ r. ⌜ r ≡ lentBad (rowFor c .counting) (countLent c lent) (need (rowFor c .each)) lent ⌝ }
+{
+    let f = content::kind_for(c);
+    let k = content::count_for(c, lent);
+    let z = packet::sizes_of(f);
+    let s = packet::row_of(f);
+    let counting = s.counting;
+    match counting {
+        Counting::Fixed => false,
+        Counting::Counted => rows_bad(k, z.row, lent),
+        Counting::Raw => false,
+        Counting::Unknown => false,
+    }
+}
+
+// The bytes of a content, where a body of so many numbers is lent: those of its lines.
+fn content_bytes(c: Content, lent: usize) -> usize
+    requires { ⌜ (countLent c lent ≤ 2000) ⌝ }
+    ensures { λ r. ⌜ r ≡ bytesOf c lent ⌝ }
+{
+    let k = content::count_for(c, lent);
+    let z = packet::sizes_of(content::kind_for(c));
+    (z.lead + k * z.each + z.rest) / 8
+}
+
+// n, k, m or t is above 255, or not that of what is lent.
+fn counts_bad(f: Fields, codes: &[u8], body: &[u8]) -> bool
+    ensures { λ r. ⌜ r ≡ countBad f (now (codes .entry)) (now (body .entry)) ⌝ }
+{
+    let c = f.content;
+    let n = f.codes;
+    if n > 255 {
+        return true;
+    }
+    if codes.len() != n * 23 {
+        return true;
+    }
+    lent_bad(c, body.len())
+}
+
+// Codes for type 1, whose receivers ignore them.
+fn codes_lost(kind: u8, codes: usize) -> bool
+    ensures { λ r. ⌜ r ≡ (eqb kind 1 && not (eqb codes 0)) ⌝ }
+{
+    if kind == 1 { codes != 0 } else { false }
+}
+
+// Content of the type named, with nothing beside it that could not be handed back.
+fn nothing_lost(f: Fields, body: &[u8]) -> bool
+    ensures { λ r. ⌜ r ≡ not (somethingLost f (now (body .entry))) ⌝ }
+{
+    let c = f.content;
+    let digits = f.digits;
+    let named = packet::type_of(packet::kind_of(f.typenumber));
+    if named != packet::type_of(content::kind_for(c)) {
+        return false;
+    }
+    if body_lost(c, body.len()) {
+        return false;
+    }
+    if !digits_kept(c, digits) {
+        return false;
+    }
+    !codes_lost(f.typenumber, f.codes)
+}
+
+// Every number is in its range, and the day is one that its month has.
+fn numbers_fine(c: Content, digits: [u8; 35], body: &[u8]) -> bool
+    requires { ⌜ (hasEntries (kindFor c) ≡ true → Lent c (now body)) ⌝ }
+    ensures { λ r. ⌜ r ≡ ((frontFine 27 c digits && (rowsFine 27 c (now (body .entry)) && backFine 27 c digits)) && not (noSuchDay c)) ⌝ }
+{
+    if !content_fine(27, c, digits, body) {
+        return false;
+    }
+    !packet::no_such_day(c)
+}
+
+// All that answer 27 asks.
+fn content_taken(f: Fields, codes: &[u8], body: &[u8]) -> bool
+    requires { ⌜ Counts f (now codes) (now body) × (hasEntries (kindFor (f .content)) ≡ true → Lent (f .content) (now body)) ⌝ }
+    ensures { λ r. ⌜ r ≡ not (notTaken f (now (codes .entry)) (now (body .entry))) ⌝ }
+{
+    let c = f.content;
+    let digits = f.digits;
+    if !nothing_lost(f, body) {
+        return false;
+    }
+    numbers_fine(c, digits, body)
+}
+
+// The size of the packet.
+pub(crate) fn size_of(f: Fields, lent: usize) -> usize
+    requires { ⌜ (f .codes ≤ 255) × (countLent (f .content) lent ≤ 2000) ⌝ }
+    ensures { λ r. ⌜ r ≡ 77 + 12 * f .codes + bytesOf (f .content) lent ⌝ }
+{
+    let c = f.content;
+    77 + 12 * f.codes + content_bytes(c, lent)
+}
+
+// The packet would have over 250 bytes; a raw body may be of any length.
+fn too_long(f: Fields, lent: usize) -> bool
+    requires { ⌜ f .codes ≤ 255 ⌝ }
+    ensures { λ r. ⌜ r ≡ ltb 250 (77 + 12 * f .codes + bytesOf (f .content) lent) ⌝ }
+{
+    let c = f.content;
+    if content::count_for(c, lent) > 1000 {
+        return true;
+    }
+    250 < size_of(f, lent)
+}
+
+// What fields whose counts are right are due: 25, 27, 20 or 10.
+fn rest_answer(f: Fields, codes: &[u8], body: &[u8], room: usize) -> u8
+    requires { ⌜ countBad f (now codes) (now body) ≡ false ⌝ }
+    ensures { λ r. ⌜ r ≡ first (drop 2 (writeCases f (now (codes .entry)) (now (body .entry)) room)) ⌝ }
+{
+    if !digits_fine(f, codes, body) {
+        return 25;
+    }
+    if !content_taken(f, codes, body) {
+        return 27;
+    }
+    if too_long(f, body.len()) {
+        return 20;
+    }
+    if room < size_of(f, body.len()) {
+        return 10;
+    }
+    0
+}
+
+// The writer's answer.
+pub(crate) fn answer(f: Fields, codes: &[u8], body: &[u8], room: usize) -> u8
+    ensures { λ r. ⌜ r ≡ writtenAnswer f (now (codes .entry)) (now (body .entry)) room ⌝ }
+{
+    if packet::not_written(f.typenumber) {
+        return 23;
+    }
+    if counts_bad(f, codes, body) {
+        return 26;
+    }
+    rest_answer(f, codes, body, room)
+}
