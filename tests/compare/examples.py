@@ -13,7 +13,7 @@ from model.on_air import on_air
 from model.packet import Fields
 from model.reader import read
 from model.writer import write
-from model import story
+from model import sister, story
 
 from . import records, worked
 
@@ -221,8 +221,28 @@ def shelves():
         yield named(name, records.adding(256 * size, one, given, summary), "add %d %s" % (answer, worked.HEARD_SUMMARY.upper()))
 
 
+def commands():
+    """Each command that is read is written back; into one byte less it does not go. Carried to a packet's content and back it is the same."""
+    for answer, given, data, name in worked.COMMANDS:
+        command = bytes.fromhex(data)
+        yield named(name, records.decoding(command), "decode %d %s" % (answer, given))
+        if answer == 0:
+            _, read_as, address, codes = sister.read(command)
+            yield named("written", records.encoding(read_as, address, codes, len(command)), "encode 0 " + data.upper())
+            yield named("into a byte less", records.encoding(read_as, address, codes, len(command) - 1), "encode 10 ")
+    yield named("no command", records.encoding(sister.NONE, b"", [], 3200), "encode 39 ")
+    yield named("codes that are not lent", records.encoding(("lock", 98000, 2), b"", [1] * 23, 3200), "encode 26 ")
+    yield named("an address that is not lent", records.encoding(("resource", 2), b"a", [1] * 23, 3200), "encode 26 ")
+    yield named("an address for a clock", records.encoding(("clock", 2014, 11, 10, 12, 13, 14), b"a", [], 3200), "encode 26 ")
+    yield named("a digit ten", records.encoding(("lock", 98000, 1), b"", [10] * 23, 3200), "encode 25 ")
+    yield named("31 November", records.encoding(("clock", 2014, 11, 31, 12, 13, 14), b"", [], 3200), "encode 27 ")
+    yield named("a clock of a packet", records.carrying(("clock", 2014, 11, 10, 12, 13, 14), [0] * 35), "carried clock 2014 11 10 12 13 14", "code -")
+    yield named("a resource code of a packet", records.carrying(("address", 2), [1] * 23 + [0] * 12), "carried resource 2", "code " + "1" * 23)
+    yield named("a hold of a packet", records.carrying(("hold", 5), [0] * 35), "carried unknown", "code -")
+
+
 def everything():
-    for some in (shelves, symbols, checks, packets, written, small, deliveries, mended, collected, damaged, whole_way, stories):
+    for some in (shelves, symbols, checks, packets, written, small, deliveries, mended, collected, damaged, whole_way, stories, commands):
         yield from some()
     yield named("a record cut short", b"P")
 

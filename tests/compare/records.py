@@ -1,7 +1,7 @@
 """Records of the program ask, and what it should print of them. All numbers are written high byte first."""
 import struct
 
-from model import on_air, reader, samples, shelf, story, writer
+from model import on_air, reader, samples, shelf, sister, story, writer
 from model.checks import packet_check
 from model.collector import Collector, Place
 from model.packet import Fields
@@ -96,13 +96,33 @@ def lining(one, room):
     return b"L" + two(room) + two(len(one)) + one
 
 
+def decoding(command):
+    return b"B" + two(len(command)) + command
+
+
+def encoding(command, address, codes, room):
+    name, *numbers = command
+    tag = {"clock": 1, "resource": 2, "lock": 3}.get(name, 0)
+    first = numbers[0] if name in ("clock", "lock") else 0
+    small = bytes(numbers[1:]) if name == "clock" else bytes(5)
+    count = numbers[-1] if name in ("resource", "lock") else 0
+    return (b"G" + bytes((tag,)) + first.to_bytes(4, "big") + small + two(count) + two(room) + two(len(address)) + two(len(codes))
+            + bytes(address) + bytes(codes))
+
+
+def carrying(content, digits):
+    """The content as a W names it, at the same places."""
+    fields = Fields(0, 0, content, digits, 0, [0] * 12, bytes(64))
+    return b"V" + writing(fields, [], [], 0)[1:47]
+
+
 def naming(name):
     return b"#" + bytes((len(name),)) + name.encode()
 
 
 HEADS = {b"#": 2, b"P": 3, b"W": 133, b"A": 7, b"R": 6, b"O": 3, b"F": 3, b"C": 5, b"N": 1, b"K": 3, b"S": 19, b"H": 7, b"T": 125, b"J": 5, b"D": 19,
-         b"E": 11, b"U": 9, b"M": 7, b"L": 5}
-LENGTHS = {b"W": 2, b"T": 2, b"E": 3, b"F": 0, b"C": 0, b"N": 0, b"S": 0, b"H": 0}  # how many lengths of parts end the head; one in the others
+         b"E": 11, b"U": 9, b"M": 7, b"L": 5, b"B": 3, b"G": 19, b"V": 47}
+LENGTHS = {b"W": 2, b"T": 2, b"G": 2, b"V": 0, b"E": 3, b"F": 0, b"C": 0, b"N": 0, b"S": 0, b"H": 0}  # how many lengths of parts end the head; one in the others
 
 
 def number(b, i):
@@ -133,13 +153,25 @@ def split(data):
 
 def fields_of(b):
     """The fields that a W names, and the codes, the body and the room."""
+    fields = Fields(b[1], number(b, 2), content_of(b), list(b[12:47]), int.from_bytes(b[47:51], "big"), list(b[51:63]), b[63:127])
+    end = 133 + number(b, 129)
+    return fields, list(b[133:end]), list(b[end:]), min(number(b, 127), 300)
+
+
+def content_of(b):
+    """The content that a W or a V names."""
     name = CONTENTS[b[4]] if b[4] < len(CONTENTS) else "raw"
     numbers = list(b[7 : 7 + SHORT.get(name, 0)])
     if name in LONG:
         numbers.insert(LONG[name], number(b, 5))
-    fields = Fields(b[1], number(b, 2), (name, *numbers), list(b[12:47]), int.from_bytes(b[47:51], "big"), list(b[51:63]), b[63:127])
-    end = 133 + number(b, 129)
-    return fields, list(b[133:end]), list(b[end:]), min(number(b, 127), 300)
+    return (name, *numbers)
+
+
+def command_of(b):
+    """What a G asks: the command, the address, the codes, the room."""
+    n, first = number(b, 15), int.from_bytes(b[2:6], "big")
+    command = {1: ("clock", first & 0xFFFF, *b[6:11]), 2: ("resource", number(b, 11)), 3: ("lock", first, number(b, 11))}.get(b[1], sister.NONE)
+    return command, b[19 : 19 + n], list(b[19 + n :]), min(number(b, 13), 3200)
 
 
 def story_of(b):
@@ -190,6 +222,29 @@ def read_lines(packet):
     return lines + written(*writer.write(f, codes, entries or list(body), 250)) if answer == 0 else lines
 
 
+def words(some, shown, size, count):
+    """In words of a size, as many as there can be."""
+    return " ".join(shown(some[i : i + size]) for i in range(0, size * count, size))
+
+
+def encoded(answer, command):
+    return ["encode %d %s" % (answer, words(command, hexed, 1600, 2)), "the rest as it was"]
+
+
+def decoded_lines(command):
+    answer, given, address, codes = sister.read(command)
+    lines = ["decode %d %s" % (answer, " ".join(map(str, given))), "address " + hexed(address), "codes " + words(codes, digits, 1000, 6)]
+    if answer:
+        return lines
+    content, beside = sister.to_packet(given, codes)
+    return lines + ["content " + " ".join(map(str, content)), "digits " + digits(beside)] + encoded(*sister.write(given, address, codes, 3200))
+
+
+def carried_lines(record):
+    command, code = sister.from_packet(content_of(record), list(record[12:47]))
+    return ["carried " + " ".join(map(str, command)), "code " + digits(code)]
+
+
 SHELVES = {
     b"E": ("add", lambda b: shelf.add(*adding_of(b))),
     b"U": ("summarize", lambda b: shelf.summarize(over(b[9:], shelf_size(b)), min(number(b, 5), 300))),
@@ -234,6 +289,12 @@ class Program:
             name, call = SHELVES[letter]
             answer, given = call(record)
             return ["%s %d %s" % (name, answer, hexed(given)), "the rest as it was"]
+        if letter == b"B":
+            return decoded_lines(record[3:])
+        if letter == b"G":
+            return encoded(*sister.write(*command_of(record)))
+        if letter == b"V":
+            return carried_lines(record)
         if letter == b"D":
             answer, verdict, product, state = samples.decide(*symbol_of(record))
             return ["decide %d %s %s" % (answer, verdict, " ".join(map(pattern, (product, *state))))]
@@ -303,6 +364,12 @@ def said_of(record):
         return "a record, into %d bytes, of level %d, version %d, the packet %s" % (number(record, 3), record[1], record[2], hexed(record[7:]))
     if letter == b"L":
         return "a line, into %d bytes, of the record %s" % (number(record, 1), hexed(record[5:]))
+    if letter == b"B":
+        return "read the command " + hexed(record[3:])
+    if letter == b"G":
+        return "write the command %s, address %s, codes %s, into %d bytes" % command_of(record)
+    if letter == b"V":
+        return "carry the content %s, digits %s" % (content_of(record), digits(record[12:47]))
     if letter == b"D":
         return "decide, the state %s, the numbers %s" % symbol_of(record)
     if letter == b"K":

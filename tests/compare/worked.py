@@ -235,3 +235,30 @@ HEARD_LINE = b"5 3 3 7801AF\n"
 NO_ENTRY = "00000000ffffffff"
 HEARD_SUMMARY = NO_ENTRY * 15 + "0000000100000000" + NO_ENTRY * 16
 ADDED_LAST = "00" * 120 + "0000000100000fff" + "00" * 128
+
+# Commands of the sister band, by tables 8 to 11 of GY/T 403-2024: the reader's answer, what it reads, the command in hex. The year 2014 is
+# 0x07DE and 98.0 MHz are 98,000 kHz, 0x00017ED0; a code is four 1 bits and 23 digits.
+BAND_CODE = "f12345678901234567890123"
+COMMANDS = (
+    (0, "clock 2014 11 10 12 13 14", "01000707de0b0a0c0d0e", "a clock"),
+    (0, "clock 2024 2 29 23 59 59", "01000707e8021d173b3b", "29 February 2024"),
+    (0, "resource 2", "02000f020a0b" + BAND_CODE, "a resource code, address of two bytes"),
+    (0, "resource 0", "02000d00" + BAND_CODE, "a resource code, no address"),
+    (0, "lock 98000 1", "03001100017ed001" + BAND_CODE, "98.0 MHz for one receiver"),
+    (0, "lock 98000 0", "03000500017ed000", "98.0 MHz for none"),
+    (26, "unknown", "", "no byte"),
+    (26, "unknown", "0400", "two bytes, and an unknown tag"),
+    (39, "unknown", "040000", "tag 4"),
+    (39, "unknown", "000007" + "00" * 7, "tag 0"),
+    (26, "unknown", "01000607de0b0a0c0d", "a clock of six bytes"),
+    (26, "unknown", "01000707de0b0a0c0d", "a clock cut short"),
+    (26, "unknown", "01010707de0b0a0c0d0e", "the high byte of a length"),
+    (26, "unknown", "02000e02" + "0a" + BAND_CODE, "an address longer than its content"),
+    (26, "unknown", "03001100017ed002" + BAND_CODE, "two codes named, one there"),
+    (24, "unknown", "03001100017ed001" + "e12345678901234567890123", "a reserved bit"),
+    (24, "unknown", "03001100017ed001" + "e1234567890123456789012a", "a reserved bit and a digit ten"),
+    (25, "unknown", "03001100017ed001" + "f1234567890123456789012a", "a digit ten"),
+    (25, "unknown", "02000d00" + "fb2345678901234567890123", "a digit eleven"),
+    (27, "unknown", "01000707e7021d173b3b", "29 February 2023"),
+    (27, "unknown", "01000707de0d0a0c0d0e", "month 13"),
+)

@@ -1,8 +1,11 @@
 // Asks the proved functions what records on standard input name, and prints what they give as lines of text, an empty one behind each
 // record. A record begins with a letter. P reads a packet, W writes fields, A puts a packet on air, K takes a packet check; T tells a story,
-// J joins one; E adds to a shelf, U takes its summary, M makes a record of it, L its line; D decides a symbol; R gives a delivery to the receiver, O a frame to the collector, F releases a pair, C copies its packet; N begins with a fresh
-// receiver and an empty collector, S and H put a receiver's record and a collector's place as they are given; # only names what comes. The
-// modules say what follows a letter. All numbers are given high byte first. The input is as much as is read at once, 65536 bytes.
+// J joins one; B reads a command of the sister band, G writes one, V makes one of a content; E adds to a shelf, U takes its summary, M makes a
+// record of it, L its line; D decides a symbol; R gives a delivery to the receiver, O a frame to the collector, F releases a pair, C copies its
+// packet; N begins with a fresh receiver and an empty collector, S and H put a receiver's record and a collector's place as they are given;
+// # only names what comes. The modules say what follows a letter. All numbers are given high byte first. The input is as much as is read at
+// once, 65536 bytes.
+mod commanding;
 mod deciding;
 mod input;
 mod keeping;
@@ -51,6 +54,13 @@ fn length_of(b: &[u8]) -> usize
         b'S' => input::whole(b, 19, 0),
         b'H' => input::whole(b, 7, 0),
         b'D' => input::whole(b, 19, input::two(b, 17) as usize),
+        b'B' => input::whole(b, 3, input::two(b, 1) as usize),
+        b'G' => input::whole(
+            b,
+            19,
+            input::two(b, 15) as usize + input::two(b, 17) as usize,
+        ),
+        b'V' => input::whole(b, 47, 0),
         b'#' => input::whole(b, 2, octets::byte(b, 1) as usize),
         _ => 0,
     }
@@ -70,6 +80,9 @@ fn asked(b: &[u8]) {
         b'M' => shelving::make(b),
         b'L' => shelving::line(b),
         b'D' => deciding::record(b),
+        b'B' => commanding::read(b),
+        b'G' => commanding::write(b),
+        b'V' => commanding::carry(b),
         b'N' => say::text(b"new\n"),
         b'S' | b'H' => say::text(b"set\n"),
         b'#' => say::name(b),

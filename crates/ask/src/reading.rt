@@ -5,7 +5,7 @@ use packet::Content;
 use packet::Fields;
 use packet::Opened;
 
-fn content(c: Content) {
+pub(crate) fn content(c: Content) {
     match c {
         Content::Raw => say::text(b"raw"),
         Content::Frequencies { count } => say::one(b"frequencies", count as u64),

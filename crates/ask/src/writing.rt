@@ -8,7 +8,7 @@ use packet::Content;
 use packet::Fields;
 
 // The content that a record names. A content uses of its numbers as many as it has.
-fn content(b: &[u8]) -> Content {
+pub(crate) fn content(b: &[u8]) -> Content {
     let long = input::two(b, 5);
     let first = octets::byte(b, 7);
     let second = octets::byte(b, 8);

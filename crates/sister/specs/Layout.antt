@@ -1,0 +1,49 @@
+-- What the functions under reader and writer ask of each other and give (ours, between functions).
+use Prim.Native.Nat.{ℕ, _+_, _*_}
+use mathlib.Core.List.{List, [], _∷_, _++_}
+use mathlib.Core.Bool.{Bool, not, _&&_}
+use Rattle.laws.specs.Bits.{at, bits, bitsOf, spread}
+use Rattle.format.specs.Format.{times, encode, fill, fine}
+use Rattle.packet.specs.Table.{code}
+use Rattle.packet.specs.Content.{noSuchDay}
+use Rattle.sister.specs.declared.Kind.{Kind}
+use Rattle.sister.specs.declared.Kind.the-variants as kind
+use Rattle.sister.specs.declared.Command.{Command}
+use Rattle.sister.specs.declared.Command.the-variants.{Clock, Resource, Lock, Unknown}
+use Rattle.sister.specs.declared.parts.Layout.{Layout}
+use Rattle.sister.specs.Table.{rowFor, contentBytes, addressCount, codeCount, partsOf, kindFor}
+use Rattle.sister.specs.Carrying.{contentFor}
+
+-- the bit at which the codes begin
+abbrev pub codesAt : Kind → ℕ → ℕ
+codesAt kind.Clock k = 80
+codesAt kind.Resource k = 32 + 8 * k
+codesAt kind.Lock k = 64
+codesAt kind.Unknown k = 24
+
+-- where the parts of a command stand
+abbrev pub layoutOf : Kind → ℕ → Layout
+layoutOf f k = record { bytes = contentBytes f k; address = addressCount f k; place = codesAt f k; codes = codeCount f k }
+
+-- the clock of a command, whatever its numbers are (003, table 9)
+unfoldable pub clockAt : List ℕ → Command
+clockAt b = Clock (at (bits b) 24 16) (at (bits b) 40 8) (at (bits b) 48 8) (at (bits b) 56 8) (at (bits b) 64 8) (at (bits b) 72 8)
+
+-- the command's own numbers are in their ranges, and its day is one that the month has
+unfoldable pub fieldsFine : Command → Bool
+fieldsFine c = fine 27 (rowFor (kindFor c) .before) (fill (rowFor (kindFor c) .before) (partsOf c .numbers)) && not (noSuchDay (contentFor c))
+
+-- ---- bits: tag and length; the command's own numbers and its count; codes
+abbrev pub headBits : ℕ → ℕ → List ℕ
+headBits tag bytes = bitsOf 8 tag ++ bitsOf 16 bytes
+
+-- by the tables 9 to 11 of 003
+abbrev pub numberBits : Command → List ℕ
+numberBits (Clock year month day hour minute second) = bitsOf 16 year ++ spread 8 (month ∷ day ∷ hour ∷ minute ∷ second ∷ [])
+numberBits (Resource m) = bitsOf 8 m
+numberBits (Lock khz n) = bitsOf 32 khz ++ bitsOf 8 n
+numberBits Unknown = []
+
+-- n codes with these digits
+unfoldable pub codeBits : ℕ → List ℕ → List ℕ
+codeBits n codes = encode (times n code) (fill (times n code) codes)

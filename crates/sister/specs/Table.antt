@@ -1,0 +1,93 @@
+-- The commands of the digital sister band as tables (003, 9.2.1 to 9.2.4; paper 02, K14): a row for each, and the lines before it.
+use Prim.Native.Nat.{ℕ, _+_, _*_}
+use mathlib.Core.List.{List, [], _∷_}
+use mathlib.Core.Bool.{Bool, true, false, cond}
+use lib.Dec.{eqb}
+use lib.ListN.{getD}
+use Rattle.format.specs.declared.Line.{Line}
+use Rattle.format.specs.Format.{any, just}
+use Rattle.packet.specs.declared.Kind.the-variants as kinds
+use Rattle.packet.specs.Table.{Row, rowOf, counted, code, contentLines}
+use Rattle.sister.specs.declared.Kind.{Kind}
+use Rattle.sister.specs.declared.Kind.the-variants.{Clock, Resource, Lock, Unknown}
+use Rattle.sister.specs.declared.Command.{Command}
+use Rattle.sister.specs.declared.Command.the-variants as command
+
+-- ---- the commands by tag (003, 9.2.2 to 9.2.4)
+unfoldable pub kindOf : ℕ → Kind
+kindOf t = cond (eqb t 1) Clock (cond (eqb t 2) Resource (cond (eqb t 3) Lock Unknown))
+
+-- and back; no command has tag 0
+abbrev pub tagOf : Kind → ℕ
+tagOf Clock = 1
+tagOf Resource = 2
+tagOf Lock = 3
+tagOf Unknown = 0
+
+-- neither of the three
+abbrev pub isUnknownKind : Kind → Bool
+isUnknownKind Clock = false
+isUnknownKind Resource = false
+isUnknownKind Lock = false
+isUnknownKind Unknown = true
+
+-- ---- the contents (003, tables 9 to 11): the clock is our type 3, the resource code our type 1; kHz, n and n codes
+abbrev pub rowFor : Kind → Row
+rowFor Clock = rowOf kinds.Clock
+rowFor Resource = rowOf kinds.Address
+rowFor Lock = counted (any 32 ∷ []) code []
+rowFor Unknown = rowOf kinds.Unknown
+
+-- the length that a command says of its content, in bytes (003, 9.2.2 to 9.2.4)
+abbrev pub contentBytes : Kind → ℕ → ℕ
+contentBytes Clock k = 7
+contentBytes Resource k = 13 + k
+contentBytes Lock k = 5 + 12 * k
+contentBytes Unknown k = 0
+
+-- the whole command (003, table 8): tag, length, content
+unfoldable pub commandLines : Kind → ℕ → List Line
+commandLines f k = just 8 (tagOf f) ∷ just 16 (contentBytes f k) ∷ contentLines (rowFor f) k
+
+-- ---- what the numbers of a command are called (003, tables 9 to 11): first its own, then the bytes of the address, then the digits of codes
+-- so many bytes of address
+abbrev pub addressCount : Kind → ℕ → ℕ
+addressCount Clock k = 0
+addressCount Resource k = k
+addressCount Lock k = 0
+addressCount Unknown k = 0
+
+-- so many codes, of 23 digits
+abbrev pub codeCount : Kind → ℕ → ℕ
+codeCount Clock k = 0
+codeCount Resource k = 1
+codeCount Lock k = k
+codeCount Unknown k = 0
+
+-- the command of a kind, from its first numbers and its count
+abbrev pub commandOf : Kind → List ℕ → ℕ → Command
+commandOf Clock xs k = command.Clock (getD xs 0 0) (getD xs 1 0) (getD xs 2 0) (getD xs 3 0) (getD xs 4 0) (getD xs 5 0)
+commandOf Resource xs k = command.Resource k
+commandOf Lock xs k = command.Lock (getD xs 0 0) k
+commandOf Unknown xs k = command.Unknown
+
+-- and back
+pub record Parts : Type 0 where
+  pub kind : Kind
+  pub numbers : List ℕ
+  pub count : ℕ
+
+-- a line a command; a count is 0 where there is none
+abbrev pub partsOf : Command → Parts
+partsOf (command.Clock year month day hour minute second) = record { kind = Clock; numbers = year ∷ month ∷ day ∷ hour ∷ minute ∷ second ∷ []; count = 0 }
+partsOf (command.Resource m) = record { kind = Resource; numbers = []; count = m }
+partsOf (command.Lock khz n) = record { kind = Lock; numbers = khz ∷ []; count = n }
+partsOf command.Unknown = record { kind = Unknown; numbers = []; count = 0 }
+
+-- its kind
+abbrev pub kindFor : Command → Kind
+kindFor c = partsOf c .kind
+
+-- its count
+abbrev pub countFor : Command → ℕ
+countFor c = partsOf c .count
