@@ -84,7 +84,7 @@ def inputs(seed):
         yield records.decoding(torn(rng, written))
     content, digits = sister.to_packet(command, codes)
     yield records.carrying(content, digits)
-    yield records.carrying(rng.choice((("hold", 7), ("keep", 1, 60), ("text", 1, 4, 300), ("command", 3), content)), [rng.randrange(16) for _ in range(35)])
+    yield records.carrying(rng.choice((("hold", 7), ("keep", 1, 60), ("text", 1, 4, 300), ("factory",), content)), [rng.randrange(16) for _ in range(35)])
 
 
 def listed():
