@@ -119,6 +119,11 @@ def of_code(crate, label):
     return any(re.search(r"^file: src/", text(p), re.M) for p in files("crates/%s/must-fail/%s.edit" % (crate, label)))
 
 
+def wanted(contract):
+    """How many edits a function has at least: where nothing is given there is one value to get wrong."""
+    return 1 if contract.startswith("()") else 2
+
+
 def contracts_hold():
     page = "docs/CONTRACTS.md"
     rows = {m.group(1): m.group(0) for m in re.finditer(r"^\| `([a-z_]+::\w+)\(.*$", text(page), re.M)}
@@ -131,8 +136,8 @@ def contracts_hold():
             fault(crate, "the contract of `%s` is not an equation, or a closed form of %s, for its answer and for each memory lent" % (name, page))
         if row is None:
             fault(page, "no row for `%s::%s`" % (crate, name))
-        elif sum(of_code(c, label) for c, kind, some in NAMED.findall(row) if kind == "!" for label in names(some)) < 2:
-            fault(page, "fewer than two edits of code for `%s::%s`" % (crate, name))
+        elif sum(of_code(c, label) for c, kind, some in NAMED.findall(row) if kind == "!" for label in names(some)) < wanted(contract):
+            fault(page, "fewer than %d edits of code for `%s::%s`" % (wanted(contract), crate, name))
     for gone in rows:
         fault(page, "a row for `%s`, which is no public function" % gone)
 
@@ -237,7 +242,7 @@ def main():
     division_holds()
     if faults:
         sys.exit("\n".join(faults))
-    print("docs: every name on %d pages is there; each of %d public functions has its row and two edits of code" % (len(pages), len(list(public_functions()))))
+    print("docs: every name on %d pages is there; each of %d public functions has its row and its edits of code" % (len(pages), len(list(public_functions()))))
 
 
 main()
