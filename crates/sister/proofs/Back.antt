@@ -18,15 +18,13 @@ use Rattle.format.specs.Format.{just, times, size, need, encode, decode, fill, 
 use Rattle.format.proofs.Tables.{fine-append, fill-flat, length-flat, unmet-fine, all-times}
 use Rattle.format.proofs.Round.{write-read}
 use Rattle.packet.specs.Table.{countLine, contentLines, countIn}
-use Rattle.packet.specs.Content.{noSuchDay}
 use Rattle.packet.specs.Reading.{padded, partBy}
 use Rattle.trips.proofs.Accepted.{count-26}
 use Rattle.trips.proofs.Padded.{take-padded}
 use Rattle.sister.specs.declared.Kind.{Kind}
 use Rattle.sister.specs.declared.Kind.the-variants.{Clock, Resource, Lock, Unknown}
 use Rattle.sister.specs.declared.Command.{Command}
-use Rattle.sister.specs.Table.{kindOf, tagOf, isUnknownKind, rowFor, contentBytes, commandLines, addressCount, codeCount, commandOf, partsOf, kindFor, countFor}
-use Rattle.sister.specs.Carrying.{contentFor}
+use Rattle.sister.specs.Table.{kindOf, tagOf, isUnknownKind, rowFor, contentBytes, commandLines, addressCount, codeCount, commandOf, partsOf, kindFor, countFor, noDay}
 use Rattle.sister.specs.Reading as reading
 use Rattle.sister.specs.Reading.{kindIn, tagIn, lengthIn, countOf, tableOf, valuesIn, numbersIn, commandIn, codesIn, lengthBad, readAnswer, openedBy, opened, addressOf}
 use Rattle.sister.specs.Writing.{sizeFor, tableFor, numbersFor, valuesFor, bytesFor, countBad, digitBad, fieldBad, writtenAnswer, written, commandOutput}
@@ -42,7 +40,7 @@ pub record Accepted (b : List ℕ) : Type 0 where
   pub c24 : fine 24 (tableOf b) (valuesIn b) ≡ true
   pub c25 : fine 25 (tableOf b) (valuesIn b) ≡ true
   pub c27 : fine 27 (tableOf b) (valuesIn b) ≡ true
-  pub day : noSuchDay (contentFor (commandIn b)) ≡ false
+  pub day : noDay (commandIn b) ≡ false
 
 pub accepted : (b : List ℕ) → readAnswer b ≡ 0 → Accepted b
 unfolding readAnswer lengthBad reading.fieldBad
@@ -54,7 +52,7 @@ accepted b e =
     let q = not-due _ 25 _ (λ h. omega arith) (p .1) in
     let r = not-due _ 27 _ (λ h. omega arith) (q .1) in
     let l1 = and-both (eqb (length b) (3 + lengthIn b)) _ (not-false _ (l .0)) in
-    let r1 = or-both (not (fine 27 (tableOf b) (valuesIn b))) (noSuchDay (contentFor (commandIn b))) (r .0) in
+    let r1 = or-both (not (fine 27 (tableOf b) (valuesIn b))) (noDay (commandIn b)) (r .0) in
     record {
       known = k .0;
       whole = eqb-true _ _ (l1 .0);

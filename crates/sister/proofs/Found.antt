@@ -18,15 +18,15 @@ use Rattle.format.specs.Reach.{fieldsRead}
 use Rattle.format.proofs.Leaves.{reached}
 use Rattle.format.proofs.Tables.{fine-append, flat-append, length-flat, size-times, need-times, unmet-fine, all-append, all-times, and-assoc}
 use Rattle.packet.specs.Table.{code, contentLines, countIn}
-use Rattle.packet.specs.Content.{noSuchDay}
 use Rattle.packet.specs.Reading.{numbersAt, zeros, padded}
+use Rattle.packet.specs.Content.{noSuchDay}
+use Rattle.packet.specs.declared.Content.the-variants as content
 use Rattle.sister.specs.declared.Kind.{Kind}
 use Rattle.sister.specs.declared.Kind.the-variants.{Clock, Resource, Lock, Unknown}
 use Rattle.sister.specs.declared.Command.{Command}
 use Rattle.sister.specs.declared.Command.the-variants as command
 use Rattle.sister.specs.Table.{kindOf, rowFor, commandLines, addressCount, codeCount, commandOf, partsOf, kindFor}
 use Rattle.sister.specs.Reading.{kindIn, countOf, tableOf, valuesIn, numbersIn, commandIn, codesIn}
-use Rattle.sister.specs.Carrying.{contentFor}
 use Rattle.sister.specs.Layout.{codesAt, layoutOf, clockAt, fieldsFine}
 use Rattle.sister.specs.declared.parts.Layout.{Layout}
 use Rattle.sister.proofs.Back.{count-small}
@@ -91,10 +91,9 @@ fine-27 b = numbers-only (kindIn b) (countOf b) (bits b)
 
 -- and the day
 pub clock-fields : (c : Command) (year month day hour minute second : ℕ) → c ≡ command.Clock year month day hour minute second
-    → fieldsFine c ≡ ((leb 1 month && leb month 12) && ((leb 1 day && leb day 31) && ((leb 0 hour && leb hour 23) && ((leb 0 minute && leb minute 59) && ((leb 0 second && leb second 59) && not (noSuchDay (contentFor c)))))))
+    → (((((leb 1 month && leb month 12) && (leb 1 day && leb day 31)) && (leb 0 hour && leb hour 23)) && (leb 0 minute && leb minute 59)) && (leb 0 second && leb second 59)) && not (noSuchDay (content.Clock year month day hour minute second)) ≡ fieldsFine c
 unfolding fieldsFine fine fill inside
-clock-fields c year month day hour minute second e =
-    rw e (simp (and-true, and-assoc))
+clock-fields c year month day hour minute second e = rw e (simp (and-true, and-assoc))
 
 -- ---- the count
 count-is : (b : List ℕ) (f : Kind) → kindIn b ≡ f → countOf b ≡ countIn (rowFor f) (bits b) 24 0

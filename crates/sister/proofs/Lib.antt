@@ -2,7 +2,6 @@ pub mod Examples
 pub mod Rows
 pub mod There
 pub mod Back
-pub mod Carried
 pub mod Found
 pub mod Put
 pub mod Says

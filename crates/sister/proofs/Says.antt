@@ -14,14 +14,12 @@ use Rattle.laws.proofs.Refusals.{stop, pass, none-left, not-due}
 use Rattle.format.specs.Format.{times, encode, decode, inside, fine}
 use Rattle.format.proofs.Round.{under-encode}
 use Rattle.packet.specs.Table.{code}
-use Rattle.packet.specs.Content.{noSuchDay}
 use Rattle.packet.proofs.Refused.{not-written}
 use Rattle.writer.proofs.Rows.{encode-size}
 use Rattle.writer.proofs.Written.{bytes-put}
 use Rattle.sister.specs.declared.Command.{Command}
 use Rattle.sister.specs.declared.parts.Layout.{Layout}
-use Rattle.sister.specs.Table.{isUnknownKind, commandLines, partsOf, kindFor, countFor}
-use Rattle.sister.specs.Carrying.{contentFor}
+use Rattle.sister.specs.Table.{isUnknownKind, commandLines, partsOf, kindFor, countFor, noDay}
 use Rattle.sister.specs.Reading as reading
 use Rattle.sister.specs.Reading.{kindIn, countOf, tableOf, valuesIn, commandIn, lengthBad, readCases, readAnswer, openedBy, refusedAs}
 use Rattle.sister.specs.Writing.{sizeFor, tableFor, numbersFor, valuesFor, bytesFor, countBad, digitBad, fieldBad, writeCases, writtenAnswer, written, commandOutput}
@@ -46,7 +44,7 @@ judged a e0 e26 e27 b l e = rw e (sym (found.codes-only a e0 e26 e27 (kindIn b) 
 module _ (b : List ℕ) where
   pub fields-are : fieldsFine (commandIn b) ≡ not (reading.fieldBad b)
   unfolding fieldsFine reading.fieldBad
-  fields-are = ap (λ (x : Bool). x && not (noSuchDay (contentFor (commandIn b)))) (sym (found.fine-27 b)) ∙ both (fine 27 (tableOf b) (valuesIn b)) (noSuchDay (contentFor (commandIn b)))
+  fields-are = ap (λ (x : Bool). x && not (noDay (commandIn b))) (sym (found.fine-27 b)) ∙ both (fine 27 (tableOf b) (valuesIn b)) (noDay (commandIn b))
 
   pub says-24 : fine 24 (tableOf b) (valuesIn b) ≡ false → 24 ≡ first (drop 3 (readCases b))
   says-24 e = sym (stop _ _ (ap not e))
@@ -106,7 +104,7 @@ module _ (c : Command) (address codes : List ℕ) (room : ℕ) where
 
     taken-are : fieldsFine c ≡ not (fieldBad c address codes)
     unfolding fieldsFine fieldBad
-    taken-are = ap (λ (x : Bool). x && not (noSuchDay (contentFor c))) (sym (put.fine-27 c address codes)) ∙ both (fine 27 (tableFor c) (valuesFor c address codes)) (noSuchDay (contentFor c))
+    taken-are = ap (λ (x : Bool). x && not (noDay c)) (sym (put.fine-27 c address codes)) ∙ both (fine 27 (tableFor c) (valuesFor c address codes)) (noDay c)
 
     bad-is : (x : Bool) → fieldsFine c ≡ not x → fieldBad c address codes ≡ x
     bad-is x e = turn (fieldBad c address codes) x (sym taken-are ∙ e)

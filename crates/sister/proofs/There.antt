@@ -17,7 +17,6 @@ use Rattle.format.specs.Format.{octets, times, size, need, encode, decode, fill
 use Rattle.format.proofs.Tables.{flat-append, flat-fill, fill-join, fine-join, length-fill, given-fine, need-times, unmet-fine, all-append, all-times}
 use Rattle.format.proofs.Round.{Fits, encode-long, under-encode, read-write}
 use Rattle.packet.specs.Table.{code, contentLines, countIn}
-use Rattle.packet.specs.Content.{noSuchDay}
 use Rattle.packet.specs.Reading.{padded, partBy}
 use Rattle.packet.specs.Writing.{writtenBy}
 use Rattle.trips.proofs.Fitting.{fits-fill, nil-of, cut}
@@ -28,8 +27,7 @@ use Rattle.sister.specs.declared.Kind.{Kind}
 use Rattle.sister.specs.declared.Kind.the-variants as kind
 use Rattle.sister.specs.declared.Command.{Command}
 use Rattle.sister.specs.declared.Command.the-variants.{Clock, Resource, Lock, Unknown}
-use Rattle.sister.specs.Table.{kindOf, tagOf, isUnknownKind, rowFor, contentBytes, commandLines, addressCount, codeCount, commandOf, partsOf, kindFor, countFor}
-use Rattle.sister.specs.Carrying.{contentFor}
+use Rattle.sister.specs.Table.{kindOf, tagOf, isUnknownKind, rowFor, contentBytes, commandLines, addressCount, codeCount, commandOf, partsOf, kindFor, countFor, noDay}
 use Rattle.sister.specs.Reading as reading
 use Rattle.sister.specs.Reading.{kindIn, lengthIn, countOf, tableOf, valuesIn, numbersIn, commandIn, codesIn, lengthBad, readAnswer, openedBy, opened, addressOf}
 use Rattle.sister.specs.Writing.{sizeFor, tableFor, numbersFor, valuesFor, bytesFor, countBad, digitBad, fieldBad, writtenAnswer, written, commandOutput}
@@ -44,7 +42,7 @@ pub record Taken (c : Command) (address codes : List ℕ) : Type 0 where
   pub codes-long : length codes ≡ 23 * codeCount (kindFor c) (countFor c)
   pub c25 : fine 25 (tableFor c) (valuesFor c address codes) ≡ true
   pub c27 : fine 27 (tableFor c) (valuesFor c address codes) ≡ true
-  pub day : noSuchDay (contentFor c) ≡ false
+  pub day : noDay c ≡ false
 
 pub taken : (c : Command) (address codes : List ℕ) (room : ℕ) → writtenAnswer c address codes room ≡ 0 → Taken c address codes
 unfolding writtenAnswer countBad digitBad fieldBad
@@ -55,7 +53,7 @@ taken c address codes room e =
     let g = not-due _ 27 _ (λ h. omega arith) (d .1) in
     let b1 = and-both (leb (countFor c) 255) _ (not-false _ (b .0)) in
     let b2 = and-both (eqb (length address) (addressCount (kindFor c) (countFor c))) _ (b1 .1) in
-    let g1 = or-both (not (fine 27 (tableFor c) (valuesFor c address codes))) (noSuchDay (contentFor c)) (g .0) in
+    let g1 = or-both (not (fine 27 (tableFor c) (valuesFor c address codes))) (noDay c) (g .0) in
     record {
       known = a .0;
       few = leb-true (countFor c) 255 (b1 .0);
@@ -227,7 +225,7 @@ module _ (c : Command) (address codes : List ℕ) (a : Taken c address codes) (t
       ∙ pass 26 _ (ap not (and-yes _ (eq-eqb _ _ (long ∙ ap (λ (n : ℕ). 3 + n) (sym length-is))) ∙ eq-eqb _ _ (length-is ∙ sym (ap₂ contentBytes kind-is count-is))))
       ∙ pass 24 _ (same-fine 24 (given-fine 24 ts xs (rows.all-24 f k)))
       ∙ pass 25 _ (same-fine 25 (a .c25))
-      ∙ pass 27 _ (or-no _ (same-fine 27 (a .c27)) ∙ ap (λ (d : Command). noSuchDay (contentFor d)) command-is ∙ a .day)
+      ∙ pass 27 _ (or-no _ (same-fine 27 (a .c27)) ∙ ap (λ (d : Command). noDay d) command-is ∙ a .day)
       ∙ none-left
 
   pub gives-back : GivesBack c address codes b

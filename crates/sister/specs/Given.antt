@@ -6,13 +6,11 @@ use Prim.Native.Nat.{ℕ, _*_}
 use lib.ListN.{length, take}
 use lib.Dec.{leb}
 use Rattle.laws.specs.Bits.{Under}
-use Rattle.packet.specs.declared.Content.{Content}
 use Rattle.packet.specs.Reading.{padded}
 use Rattle.sister.specs.declared.Command.{Command}
 use Rattle.sister.specs.declared.Command.the-variants as command
 use Rattle.sister.specs.declared.Opened.{Opened}
 use Rattle.sister.specs.Table.{kindFor, countFor, codeCount}
-use Rattle.sister.specs.Carrying.{contentFor, commandFor, digitsFor, codeFor}
 use Rattle.sister.specs.Reading.{opened, addressOf}
 use Rattle.sister.specs.Writing.{written, commandOutput}
 
@@ -40,14 +38,3 @@ pub record GivesBack (c : Command) (address codes b : List ℕ) : Type 0 where
 -- what is lent of the codes that were read: as many digits as there are
 abbrev pub lentCodes : Opened → List ℕ
 lentCodes o = take (23 * codeCount (kindFor (o .command)) (countFor (o .command))) (o .codes)
-
--- ---- carried over to our packets and back (02, K14)
--- a command with the digits of its codes is the same
-pub record CommandSame (c : Command) (codes : List ℕ) : Type 0 where
-  pub command-same : commandFor (contentFor c) ≡ c
-  pub codes-same : codeFor (contentFor c) (digitsFor c codes) ≡ codes
-
--- and so is a content with the digits beside it
-pub record ContentSame (c : Content) (digits : List ℕ) : Type 0 where
-  pub content-same : contentFor (commandFor c) ≡ c
-  pub digits-same : digitsFor (commandFor c) (codeFor c digits) ≡ digits

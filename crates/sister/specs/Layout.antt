@@ -5,14 +5,12 @@ use mathlib.Core.Bool.{Bool, not, _&&_}
 use Rattle.laws.specs.Bits.{at, bits, bitsOf, spread}
 use Rattle.format.specs.Format.{times, encode, fill, fine}
 use Rattle.packet.specs.Table.{code}
-use Rattle.packet.specs.Content.{noSuchDay}
 use Rattle.sister.specs.declared.Kind.{Kind}
 use Rattle.sister.specs.declared.Kind.the-variants as kind
 use Rattle.sister.specs.declared.Command.{Command}
 use Rattle.sister.specs.declared.Command.the-variants.{Clock, Resource, Lock, Unknown}
 use Rattle.sister.specs.declared.parts.Layout.{Layout}
-use Rattle.sister.specs.Table.{rowFor, contentBytes, addressCount, codeCount, partsOf, kindFor}
-use Rattle.sister.specs.Carrying.{contentFor}
+use Rattle.sister.specs.Table.{rowFor, contentBytes, addressCount, codeCount, partsOf, kindFor, noDay}
 
 -- the bit at which the codes begin
 abbrev pub codesAt : Kind → ℕ → ℕ
@@ -31,7 +29,7 @@ clockAt b = Clock (at (bits b) 24 16) (at (bits b) 40 8) (at (bits b) 48 8) (at 
 
 -- the command's own numbers are in their ranges, and its day is one that the month has
 unfoldable pub fieldsFine : Command → Bool
-fieldsFine c = fine 27 (rowFor (kindFor c) .before) (fill (rowFor (kindFor c) .before) (partsOf c .numbers)) && not (noSuchDay (contentFor c))
+fieldsFine c = fine 27 (rowFor (kindFor c) .before) (fill (rowFor (kindFor c) .before) (partsOf c .numbers)) && not (noDay c)
 
 -- ---- bits: tag and length; the command's own numbers and its count; codes
 abbrev pub headBits : ℕ → ℕ → List ℕ

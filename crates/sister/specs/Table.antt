@@ -7,7 +7,9 @@ use lib.ListN.{getD}
 use Rattle.format.specs.declared.Line.{Line}
 use Rattle.format.specs.Format.{any, just}
 use Rattle.packet.specs.declared.Kind.the-variants as kinds
+use Rattle.packet.specs.declared.Content.the-variants as content
 use Rattle.packet.specs.Table.{Row, rowOf, counted, code, contentLines}
+use Rattle.packet.specs.Content.{noSuchDay}
 use Rattle.sister.specs.declared.Kind.{Kind}
 use Rattle.sister.specs.declared.Kind.the-variants.{Clock, Resource, Lock, Unknown}
 use Rattle.sister.specs.declared.Command.{Command}
@@ -91,3 +93,10 @@ kindFor c = partsOf c .kind
 -- its count
 abbrev pub countFor : Command → ℕ
 countFor c = partsOf c .count
+
+-- ---- the one rule that crosses lines: a day that the month of a clock does not have, by our type 3 (003, table 9)
+abbrev pub noDay : Command → Bool
+noDay (command.Clock year month day hour minute second) = noSuchDay (content.Clock year month day hour minute second)
+noDay (command.Resource m) = false
+noDay (command.Lock khz n) = false
+noDay command.Unknown = false

@@ -15,6 +15,7 @@ ghost use Rattle.sister.specs.Layout.{fieldsFine};
 use crate::Command;
 use crate::Kind;
 use crate::parts;
+use packet::Content;
 
 // ---- reading
 
@@ -82,32 +83,29 @@ fn within(x: u8, lo: u8, hi: u8) -> bool
 fn fields_fine(c: Command) -> bool
     ensures { λ r. ⌜ r ≡ fieldsFine c ⌝ }
 {
-    let no_day = packet::no_such_day(crate::content_of(c));
     match c {
         Command::Clock {
-            year: _,
+            year,
             month,
             day,
             hour,
             minute,
             second,
         } => {
-            if !within(month, 1, 12) {
-                return false;
-            }
-            if !within(day, 1, 31) {
-                return false;
-            }
-            if !within(hour, 0, 23) {
-                return false;
-            }
-            if !within(minute, 0, 59) {
-                return false;
-            }
-            if !within(second, 0, 59) {
-                return false;
-            }
-            !no_day
+            let no_day = packet::no_such_day(Content::Clock {
+                year: year,
+                month: month,
+                day: day,
+                hour: hour,
+                minute: minute,
+                second: second,
+            });
+            within(month, 1, 12)
+                & within(day, 1, 31)
+                & within(hour, 0, 23)
+                & within(minute, 0, 59)
+                & within(second, 0, 59)
+                & !no_day
         }
         Command::Resource { length: _ } => true,
         Command::Lock { khz: _, count: _ } => true,

@@ -17,13 +17,13 @@ use Rattle.trips.proofs.Taken as trips
 use Rattle.trips.proofs.Answers as answers
 use Rattle.trips.proofs.Padded.{padded-take, take-padded}
 use Rattle.trips.proofs.Fitting.{nil-of}
 use Rattle.sister.specs.declared.Command.{Command}
 use Rattle.sister.specs.declared.Command.the-variants as command
 use Rattle.sister.specs.Table.{codeCount, kindFor, countFor}
-use Rattle.sister.specs.Carrying.{contentFor, commandFor}
+use Rattle.carry.specs.Carrying.{contentFor, commandFor, CommandSame, ContentSame}
 use Rattle.sister.specs.Reading.{opened}
-use Rattle.sister.specs.Given.{lentCodes, CommandSame, ContentSame}
+use Rattle.sister.specs.Given.{lentCodes}
 use Rattle.sister.proofs.Back.{lent-long}
 
 -- ---- a command, its codes being as many digits as it has
 there-back : (c : Command) (codes : List ℕ) → (contentFor c ≡ content.Raw → ⊥) → length codes ≡ 23 * codeCount (kindFor c) (countFor c) → CommandSame c codes
