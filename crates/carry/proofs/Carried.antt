@@ -28,7 +28,8 @@ use Rattle.sister.proofs.Back.{lent-long}
 -- ---- a command, its codes being as many digits as it has
 there-back : (c : Command) (codes : List ℕ) → (contentFor c ≡ content.Raw → ⊥) → length codes ≡ 23 * codeCount (kindFor c) (countFor c) → CommandSame c codes
 there-back (command.Clock year month day hour minute second) codes h n = record { command-same = refl; codes-same = sym (nil-of codes n) }
-there-back (command.Resource m) codes h n =
+there-back (command.Resource m) codes h e =
+    let n : length codes ≡ 23 = omega (arith, e) in
     record {
       command-same = refl;
       codes-same =

@@ -8,7 +8,7 @@ use Rattle.format.specs.Format.{times, size, need, encode, decode, fill, flat, 
 use Rattle.days.specs.Days.{daysIn}
 use Rattle.packet.specs.Table.{contentLines}
 use Rattle.sister.specs.declared.Command.the-variants.{Clock, Lock}
-use Rattle.sister.specs.Table.{kindOf, commandLines}
+use Rattle.sister.specs.Table.{tagged, kindOf, commandLines}
 use Rattle.sister.specs.Reading as reading
 use Rattle.sister.specs.Reading.{countOf, tableOf, numbersIn, commandIn, codesIn, lengthBad, readAnswer}
 use Rattle.sister.specs.Writing.{tableFor, numbersFor, bytesFor}
@@ -18,7 +18,7 @@ abbrev clock : List ℕ
 clock = 1 ∷ 0 ∷ 7 ∷ 7 ∷ 222 ∷ 11 ∷ 10 ∷ 12 ∷ 13 ∷ 14 ∷ []
 
 pub clock-read : (readAnswer clock ≡ 0) × (commandIn clock ≡ Clock 2014 11 10 12 13 14)
-unfolding readAnswer first commandIn numbersIn tableOf countOf commandLines contentLines kindOf decode flat run at spread bitsOf fine inside lengthBad reading.fieldBad times daysIn
+unfolding readAnswer first commandIn numbersIn tableOf countOf commandLines contentLines kindOf tagged decode flat run at spread bitsOf fine inside lengthBad reading.fieldBad times daysIn
 clock-read = (refl, refl)
 
 pub clock-written : bytesFor (Clock 2014 11 10 12 13 14) [] [] ≡ clock
@@ -34,7 +34,7 @@ abbrev digits : List ℕ
 digits = 1 ∷ 2 ∷ 3 ∷ 4 ∷ 5 ∷ 6 ∷ 7 ∷ 8 ∷ 9 ∷ 0 ∷ 1 ∷ 2 ∷ 3 ∷ 4 ∷ 5 ∷ 6 ∷ 7 ∷ 8 ∷ 9 ∷ 0 ∷ 1 ∷ 2 ∷ 3 ∷ []
 
 pub lock-read : (readAnswer lock ≡ 0) × (commandIn lock ≡ Lock 98000 1) × (codesIn lock ≡ digits)
-unfolding readAnswer first commandIn codesIn numbersIn tableOf countOf commandLines contentLines kindOf decode flat run at spread bitsOf fine inside lengthBad reading.fieldBad times need size
+unfolding readAnswer first commandIn codesIn numbersIn tableOf countOf commandLines contentLines kindOf tagged decode flat run at spread bitsOf fine inside lengthBad reading.fieldBad times need size
 lock-read = (refl, refl, refl)
 
 pub lock-written : bytesFor (Lock 98000 1) [] digits ≡ lock

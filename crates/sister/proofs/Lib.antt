@@ -1,4 +1,5 @@
 pub mod Examples
+pub mod Shape
 pub mod Rows
 pub mod There
 pub mod Back

@@ -12,7 +12,7 @@ use Rattle.sister.specs.Table.{kindFor, countFor, addressCount}
 use Rattle.sister.specs.declared.parts.Layout.{Layout}
 use Rattle.sister.specs.Layout.{layoutOf}
 use Rattle.sister.specs.Writing.{countBad}
-use Rattle.sister.proofs.Found.{places}
+use Rattle.sister.proofs.Rows.{places}
 use borrow.Author.Needs.{needs}
 use Rattle.sister.proofs.judge.count_bad.Statement.{statement}
 use Rattle.sister.proofs.judge.count_bad.Tie as tie

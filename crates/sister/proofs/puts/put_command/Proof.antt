@@ -8,8 +8,7 @@ use Rattle.laws.specs.Bits.{bits}
 use Rattle.sister.specs.Table.{tagOf, kindFor, countFor, contentBytes, codeCount}
 use Rattle.sister.specs.declared.parts.Layout.{Layout}
 use Rattle.sister.specs.Layout.{layoutOf, headBits, codeBits}
-use Rattle.sister.proofs.Found.{places}
-use Rattle.sister.proofs.Rows.{few-bytes}
+use Rattle.sister.proofs.Rows.{few-bytes, places}
 use Rattle.sister.proofs.Put.{counted, numbers-put, together, address-end}
 use borrow.Author.Needs.{needs}
 use Rattle.sister.proofs.puts.put_command.Statement.{statement}
