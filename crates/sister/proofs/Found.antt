@@ -7,7 +7,7 @@ use native.Mathlib.Omega.{arith}
 use lib.ListN.{length, take, drop, getD, length-replicate}
 use lib.Seq.{sets, length-sets, take-at, drop-at, drop-drop}
 use lib.Dec.{leb, ltb, eqb}
-use borrow.Author.Tests.{lt-ltb, ne-eqb}
+use borrow.Author.Tests.{lt-ltb, le-leb, ne-eqb}
 use Rattle.laws.specs.Bits.{at, run, bits}
 use Rattle.laws.specs.Scan.{all}
 use Rattle.laws.proofs.ByteFields.{at-byte}
@@ -75,9 +75,9 @@ fine-27 b = numbers-only (kindIn b) (countOf b) (bits b)
 
 -- and the day
 pub clock-fields : (c : Command) (year month day hour minute second : ℕ) → c ≡ command.Clock year month day hour minute second
-    → (((((leb 1 month && leb month 12) && (leb 1 day && leb day 31)) && (leb 0 hour && leb hour 23)) && (leb 0 minute && leb minute 59)) && (leb 0 second && leb second 59)) && not (noSuchDay (content.Clock year month day hour minute second)) ≡ fieldsFine c
+    → (((((((leb 1 month && leb month 12) && leb 1 day) && leb day 31) && leb hour 23) && leb minute 59) && leb second 59) && not (noSuchDay (content.Clock year month day hour minute second))) ≡ fieldsFine c
 unfolding fieldsFine fine fill inside
-clock-fields c year month day hour minute second e = rw e (simp (and-true, and-assoc))
+clock-fields c year month day hour minute second e = rw (e, le-leb 0 hour (omega arith), le-leb 0 minute (omega arith), le-leb 0 second (omega arith)) (simp (and-true, and-assoc))
 
 -- ---- a byte among the bits
 pub byte-is : (b : List ℕ) (i : ℕ) → getD b i 0 < 256 → getD b i 0 ≡ at (bits b) (8 * i) 8

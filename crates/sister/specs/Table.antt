@@ -1,7 +1,7 @@
 -- The commands of the digital sister band as tables (003, 9.2.1 to 9.2.4; paper 02, K14): a row for each, and the lines before it.
 use Prim.Native.Nat.{ℕ, _+_, _*_}
 use mathlib.Core.List.{List, [], _∷_}
-use mathlib.Core.Bool.{Bool, true, false, cond}
+use mathlib.Core.Bool.{Bool, false, cond}
 use lib.Dec.{eqb}
 use lib.ListN.{getD}
 use Rattle.format.specs.declared.Line.{Line}
@@ -37,10 +37,7 @@ kindOf t = tagged t commands
 
 -- neither of the three
 abbrev pub isUnknownKind : Kind → Bool
-isUnknownKind Clock = false
-isUnknownKind Resource = false
-isUnknownKind Lock = false
-isUnknownKind Unknown = true
+isUnknownKind f = eqb (tagOf f) 0
 
 -- ---- the contents (003, tables 9 to 11): the clock is our type 3, the resource code our type 1; kHz, n and n codes
 abbrev pub rowFor : Kind → Row

@@ -3,6 +3,7 @@ ghost use mathlib.Core.Path.{_≡_};
 ghost use Prim.Native.Nat.{_*_, _<_, _≤_};
 ghost use Rattle.laws.specs.Bits.{at, bits};
 ghost use Rattle.packet.specs.Reading.{zeros, padded};
+ghost use Rattle.sister.specs.Table.{tagOf};
 ghost use Rattle.sister.specs.Reading.{kindIn, countOf, commandIn, codesIn};
 ghost use Rattle.sister.specs.Layout.{layoutOf, clockAt};
 use crate::Command;
@@ -44,6 +45,17 @@ pub(crate) fn kind(b: &[u8]) -> Kind
         2 => Kind::Resource,
         3 => Kind::Lock,
         _ => Kind::Unknown,
+    }
+}
+
+pub(crate) fn tag_of(f: Kind) -> u8
+    ensures { λ r. ⌜ r ≡ tagOf f ⌝ }
+{
+    match f {
+        Kind::Clock => 1,
+        Kind::Resource => 2,
+        Kind::Lock => 3,
+        Kind::Unknown => 0,
     }
 }
 

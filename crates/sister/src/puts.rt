@@ -6,7 +6,7 @@ ghost use lib.ListN.{length};
 ghost use lib.Seq.{sets};
 ghost use Rattle.laws.specs.Bits.{bits};
 ghost use Rattle.format.specs.Format.{encode};
-ghost use Rattle.sister.specs.Table.{tagOf, kindFor, countFor};
+ghost use Rattle.sister.specs.Table.{kindFor, countFor};
 ghost use Rattle.sister.specs.Writing.{tableFor, valuesFor, sizeFor, countBad};
 ghost use Rattle.sister.specs.Layout.{headBits, numberBits, codeBits};
 use crate::Command;
@@ -46,17 +46,6 @@ pub(crate) fn count_for(c: Command) -> usize
         Command::Resource { length } => length,
         Command::Lock { khz: _, count } => count,
         Command::Unknown => 0,
-    }
-}
-
-fn tag_of(f: Kind) -> u8
-    ensures { λ r. ⌜ r ≡ tagOf f ⌝ }
-{
-    match f {
-        Kind::Clock => 1,
-        Kind::Resource => 2,
-        Kind::Lock => 3,
-        Kind::Unknown => 0,
     }
 }
 
@@ -122,7 +111,7 @@ pub(crate) fn put_command(c: Command, address: &[u8], codes: &[u8], out: &mut [u
 {
     let f = kind_for(c);
     let l = parts::laid(f, count_for(c));
-    put_head(out, tag_of(f), l.bytes);
+    put_head(out, parts::tag_of(f), l.bytes);
     put_numbers(out, c);
     format::put_fields(out, l.place - 8 * l.address, 8, address);
     put_codes(out, l.place, l.codes, codes);

@@ -12,21 +12,6 @@ enum-known-c c = search needs
 no-such-day-requires : tie.Need-no-such-day-requires
 no-such-day-requires c κs = search needs
 
-within-requires : tie.Need-within-requires
-within-requires c κs = search needs
-
-within-requires-2 : tie.Need-within-requires-2
-within-requires-2 c κs = search needs
-
-within-requires-3 : tie.Need-within-requires-3
-within-requires-3 c κs = search needs
-
-within-requires-4 : tie.Need-within-requires-4
-within-requires-4 c κs = search needs
-
-within-requires-5 : tie.Need-within-requires-5
-within-requires-5 c κs = search needs
-
 enum-told : tie.Need-enum-told
 enum-told c = search needs
 
@@ -37,9 +22,7 @@ enum-told-3 : tie.Need-enum-told-3
 enum-told-3 c = search needs
 
 returns : tie.Need-returns
-returns c =
-    rw (c .before .before .before .before .before .no-such-day .ensures, c .before .before .before .before .within .ensures, c .before .before .before .within2 .ensures, c .before .before .within3 .ensures, c .before .within4 .ensures, c .within5 .ensures)
-    (clock-fields (c .before .before .before .before .before .before .before .before .before .args .c) _ _ _ _ _ _ (c .before .before .before .before .before .before .before .c .given .1))
+returns c = rw (c .no-such-day .ensures) (clock-fields (c .before .before .before .before .args .c) _ _ _ _ _ _ (c .before .before .c .given .1))
 
 returns-2 : tie.Need-returns-2
 unfolding fieldsFine fine fill
@@ -59,11 +42,6 @@ fields-fine-spec =
     (tie.spec
     enum-known-c
     no-such-day-requires
-    within-requires
-    within-requires-2
-    within-requires-3
-    within-requires-4
-    within-requires-5
     enum-told
     enum-told-2
     enum-told-3
