@@ -27,9 +27,10 @@ use Rattle.writer.proofs.Rules.{codes-digits}
 use Rattle.sister.specs.declared.Kind.{Kind}
 use Rattle.sister.specs.declared.Command.{Command}
 use Rattle.sister.specs.declared.Command.the-variants.{Clock, Resource, Lock}
+use Rattle.sister.specs.declared.parts.Layout.{Layout}
 use Rattle.sister.specs.Table.{tagOf, rowFor, contentBytes, addressCount, codeCount, partsOf, kindFor, countFor}
 use Rattle.sister.specs.Writing.{tableFor, numbersFor, valuesFor, countBad}
-use Rattle.sister.specs.Layout.{codesAt, headBits, numberBits, codeBits}
+use Rattle.sister.specs.Layout.{codesAt, layoutOf, headBits, numberBits, codeBits}
 use Rattle.sister.proofs.Shape.{octet, shaped, shaped-fine, shaped-encode}
 use Rattle.sister.proofs.Rows as rows
 use Rattle.sister.proofs.There.{numbers-long}
@@ -159,26 +160,37 @@ numbers-end c =
     length-append (encode B (fill B (partsOf c .numbers))) (encode L (fill L []))
     ∙ omega (arith, encode-size B (partsOf c .numbers) (omega (arith, numbers-long c)), encode-size L [] (omega (arith, count-need s (countFor c))), count-size s (countFor c), count-size s 0)
 
-pub address-end : (c : Command) (n : ℕ) → n ≡ addressCount (kindFor c) (countFor c) → 8 * n ≤ codesAt (kindFor c) (countFor c)
+-- how far a layout goes
+pub reaches : (c : Command) (l : Layout) → l ≡ layoutOf (kindFor c) (countFor c) → countFor c ≤ 255 → (l .bytes < 65536) × (8 * l .address ≤ l .place) × (l .place ≤ 2200) × (l .codes ≤ 255) × (l .address ≤ 255)
 unfolding codesAt
-address-end c n e = omega (arith, e)
+reaches c l e h =
+    let z = rows.places (kindFor c) (countFor c) h in
+    let a = ap (λ (y : Layout). y .address) e in
+    let p = ap (λ (y : Layout). y .place) e in
+    (omega (arith, ap (λ (y : Layout). y .bytes) e, rows.few-bytes (kindFor c) (countFor c) h), omega (arith, a, p), omega (arith, p, z .0), omega (arith, ap (λ (y : Layout). y .codes) e, z .1), omega (arith, a, z .2))
 
-pub together : (c : Command) (address codes o o₁ o₂ o₃ o₄ : List ℕ) (place n : ℕ) → Counted c address codes → place ≡ codesAt (kindFor c) (countFor c) → n ≡ addressCount (kindFor c) (countFor c)
-    → bits o₁ ≡ sets (bits o) 0 (headBits (tagOf (kindFor c)) (contentBytes (kindFor c) (countFor c)))
+pub together : (c : Command) (address codes o o₁ o₂ o₃ o₄ : List ℕ) (l : Layout) (t : ℕ) → Counted c address codes → l ≡ layoutOf (kindFor c) (countFor c) → t ≡ tagOf (kindFor c)
+    → bits o₁ ≡ sets (bits o) 0 (headBits t (l .bytes))
     → bits o₂ ≡ sets (bits o₁) 24 (numberBits c)
-    → bits o₃ ≡ sets (bits o₂) (place - 8 * n) (spread 8 address)
-    → bits o₄ ≡ sets (bits o₃) place (codeBits (codeCount (kindFor c) (countFor c)) codes)
+    → bits o₃ ≡ sets (bits o₂) (l .place - 8 * l .address) (fieldsBits (l .place - 8 * l .address) 8 address)
+    → bits o₄ ≡ sets (bits o₃) (l .place) (codeBits (l .codes) codes)
     → bits o₄ ≡ sets (bits o) 0 (encode (tableFor c) (valuesFor c address codes))
 unfolding codesAt
-together c address codes o o₁ o₂ o₃ o₄ place n h ep en e₁ e₂ e₃ e₄ =
-    let H = headBits (tagOf (kindFor c)) (contentBytes (kindFor c) (countFor c)) in
+together c address codes o o₁ o₂ o₃ o₄ l t h e et e₁ e₂ e₃ e₄ =
+    let f = kindFor c in
+    let k = countFor c in
+    let H = headBits t (l .bytes) in
     let N = numberBits c in
     let A = spread 8 address in
-    let C = codeBits (codeCount (kindFor c) (countFor c)) codes in
-    let hl : length H ≡ 24 = length-append (bitsOf 8 (tagOf (kindFor c))) (bitsOf 16 (contentBytes (kindFor c) (countFor c))) ∙ omega (arith, length-bitsOf 8 (tagOf (kindFor c)), length-bitsOf 16 (contentBytes (kindFor c) (countFor c))) in
-    let ne = numbers-end c in
-    let al = length-spread 8 address in
-    let q : place ≡ place - 8 * n + length A = omega (arith, ep, al, en, h .address-long) in
-    let x = join (bits o₂) (bits o₃) (bits o₄) A C (place - 8 * n) place e₃ e₄ q in
-    let y = join (bits o₁) (bits o₂) (bits o₄) N (A ++ C) 24 (place - 8 * n) e₂ x (omega (arith, ep, en, ne)) in
-    join (bits o) (bits o₁) (bits o₄) H (N ++ (A ++ C)) 0 24 e₁ y (omega (arith, hl)) ∙ ap (sets (bits o) 0) (sym (all-bits c address codes h))
+    let C = codeBits (l .codes) codes in
+    let q = l .place - 8 * l .address in
+    let z = reaches c l e (h .few) in
+    let a = ap (λ (y : Layout). y .address) e in
+    let p = ap (λ (y : Layout). y .place) e in
+    let hl : length H ≡ 24 = length-append (bitsOf 8 t) (bitsOf 16 (l .bytes)) ∙ omega (arith, length-bitsOf 8 t, length-bitsOf 16 (l .bytes)) in
+    let w = numbers-put o₂ o₃ address q 8 (omega (arith, z .2)) (omega arith) (omega (arith, h .address-long, a, z .4)) e₃ in
+    let x = join (bits o₂) (bits o₃) (bits o₄) A C q (l .place) w e₄ (omega (arith, z .1, a, h .address-long, length-spread 8 address)) in
+    let y = join (bits o₁) (bits o₂) (bits o₄) N (A ++ C) 24 q e₂ x (omega (arith, p, a, numbers-end c)) in
+    join (bits o) (bits o₁) (bits o₄) H (N ++ (A ++ C)) 0 24 e₁ y (omega (arith, hl))
+    ∙ ap₂ (λ (u : ℕ) (v : Layout). sets (bits o) 0 (headBits u (v .bytes) ++ (N ++ (A ++ codeBits (v .codes) codes)))) et e
+    ∙ ap (sets (bits o) 0) (sym (all-bits c address codes h))

@@ -13,6 +13,7 @@ ghost use Rattle.sister.specs.Layout.{fieldsFine};
 use crate::Command;
 use crate::Kind;
 use crate::parts;
+use crate::puts;
 use packet::Content;
 
 // ---- reading
@@ -149,11 +150,10 @@ fn digits_fine(xs: &[u8]) -> bool
 fn count_bad(c: Command, address: &[u8], codes: &[u8]) -> bool
     ensures { λ r. ⌜ r ≡ countBad c (now (address .entry)) (now (codes .entry)) ⌝ }
 {
-    let k = crate::puts::count_for(c);
-    if k > 255 {
+    if puts::count_for(c) > 255 {
         return true;
     }
-    let l = parts::laid(crate::puts::kind_for(c), k);
+    let l = puts::laid_for(c);
     if address.len() != l.address {
         return true;
     }
@@ -171,7 +171,7 @@ fn rest_answer(c: Command, address: &[u8], codes: &[u8], room: usize) -> u8
     if !fields_fine(c) {
         return 27;
     }
-    let l = parts::laid(crate::puts::kind_for(c), crate::puts::count_for(c));
+    let l = puts::laid_for(c);
     if room < 3 + l.bytes {
         return 10;
     }
@@ -182,7 +182,7 @@ fn rest_answer(c: Command, address: &[u8], codes: &[u8], room: usize) -> u8
 pub(crate) fn written_answer(c: Command, address: &[u8], codes: &[u8], room: usize) -> u8
     ensures { λ r. ⌜ r ≡ writtenAnswer c (now (address .entry)) (now (codes .entry)) room ⌝ }
 {
-    if parts::tag_of(crate::puts::kind_for(c)) == 0 {
+    if parts::tag_of(puts::kind_for(c)) == 0 {
         return 39;
     }
     if count_bad(c, address, codes) {

@@ -8,10 +8,11 @@ ghost use Rattle.laws.specs.Bits.{bits};
 ghost use Rattle.format.specs.Format.{encode};
 ghost use Rattle.sister.specs.Table.{kindFor, countFor};
 ghost use Rattle.sister.specs.Writing.{tableFor, valuesFor, sizeFor, countBad};
-ghost use Rattle.sister.specs.Layout.{headBits, numberBits, codeBits};
+ghost use Rattle.sister.specs.Layout.{layoutOf, headBits, numberBits, codeBits};
 use crate::Command;
 use crate::Kind;
 use crate::parts;
+use crate::parts::Layout;
 
 pub(crate) fn kind_for(c: Command) -> Kind
     ensures { λ r. ⌜ r ≡ kindFor c ⌝ }
@@ -47,6 +48,14 @@ pub(crate) fn count_for(c: Command) -> usize
         Command::Lock { khz: _, count } => count,
         Command::Unknown => 0,
     }
+}
+
+// Where the parts of a command stand.
+pub(crate) fn laid_for(c: Command) -> Layout
+    requires { ⌜ countFor c ≤ 255 ⌝ }
+    ensures { λ r. ⌜ r ≡ layoutOf (kindFor c) (countFor c) ⌝ }
+{
+    parts::laid(kind_for(c), count_for(c))
 }
 
 // Tag and length.
@@ -109,9 +118,8 @@ pub(crate) fn put_command(c: Command, address: &[u8], codes: &[u8], out: &mut [u
     ensures size { λ r. ⌜ r ≡ sizeFor c ⌝ }
     ensures bits { λ _. ⌜ bits (now (out .exit)) ≡ sets (bits (now (out .entry))) 0 (encode (tableFor c) (valuesFor c (now (address .entry)) (now (codes .entry)))) ⌝ }
 {
-    let f = kind_for(c);
-    let l = parts::laid(f, count_for(c));
-    put_head(out, parts::tag_of(f), l.bytes);
+    let l = laid_for(c);
+    put_head(out, parts::tag_of(kind_for(c)), l.bytes);
     put_numbers(out, c);
     format::put_fields(out, l.place - 8 * l.address, 8, address);
     put_codes(out, l.place, l.codes, codes);
