@@ -11,6 +11,7 @@ use Rattle.packet.specs.declared.Content.{Content}
 use Rattle.packet.specs.declared.Content.the-variants as content
 use Rattle.packet.specs.declared.Fields.{Fields}
 use Rattle.packet.specs.Reading.{padded}
+use Rattle.packet.specs.Content.{noSuchDay}
 use Rattle.packet.specs.Writing as packet
 use Rattle.packet.specs.Writing.{digitsBefore, digitsAfter}
 use Rattle.trips.proofs.Taken as trips
@@ -19,7 +20,7 @@ use Rattle.trips.proofs.Padded.{padded-take, take-padded}
 use Rattle.trips.proofs.Fitting.{nil-of}
 use Rattle.sister.specs.declared.Command.{Command}
 use Rattle.sister.specs.declared.Command.the-variants as command
-use Rattle.sister.specs.Table.{codeCount, kindFor, countFor}
+use Rattle.sister.specs.Table.{codeCount, kindFor, countFor, noDay}
 use Rattle.carry.specs.Carrying.{contentFor, commandFor, CommandSame, ContentSame}
 use Rattle.sister.specs.Reading.{opened}
 use Rattle.sister.specs.Given.{lentCodes}
@@ -58,6 +59,13 @@ back-there (content.Text kind set t) ds h n e = absurd (h refl)
 back-there (content.Hold serial) ds h n e = absurd (h refl)
 
 -- ---- the theorems
+-- A command has no such day exactly where its content has none.
+pub same-day : (c : Command) → noDay c ≡ noSuchDay (contentFor c)
+same-day (command.Clock year month day hour minute second) = refl
+same-day (command.Resource m) = refl
+same-day (command.Lock khz n) = refl
+same-day command.Unknown = refl
+
 -- Every command that the reader accepts and that our packets have a content for, a clock or a resource code, is the same there and back.
 pub commands-carried : (b : List ℕ) → opened b .answer ≡ 0 → (contentFor (opened b .command) ≡ content.Raw → ⊥) → CommandSame (opened b .command) (lentCodes (opened b))
 commands-carried b h g = there-back (opened b .command) (lentCodes (opened b)) g (lent-long b h)

@@ -1,7 +1,10 @@
 -- Commands worked out by hand from 003's tables 8 to 11. Assumes nothing.
 use mathlib.Core.Path.{_≡_, refl}
 use mathlib.Core.List.{List, [], _∷_}
-use Prim.Native.Nat.{ℕ}
+use mathlib.Core.Bool.{true}
+use Prim.Native.Nat.{ℕ, _≤_}
+use native.Mathlib.Omega.{arith}
+use borrow.Author.Tests.{le-leb}
 use Rattle.laws.specs.Bits.{at, bitsOf, run, spread}
 use Rattle.laws.specs.Refusals.{first}
 use Rattle.format.specs.Format.{times, size, need, encode, decode, fill, flat, inside, fine}
@@ -11,6 +14,7 @@ use Rattle.sister.specs.declared.Command.the-variants.{Clock, Lock}
 use Rattle.sister.specs.Table.{tagged, kindOf, commandLines}
 use Rattle.sister.specs.Reading as reading
 use Rattle.sister.specs.Reading.{countOf, tableOf, numbersIn, commandIn, codesIn, lengthBad, readAnswer}
+use Rattle.sister.specs.Given.{held}
 use Rattle.sister.specs.Writing.{tableFor, numbersFor, bytesFor}
 
 -- 10 November 2014, 12:13:14; the year is 0x07DE (003, table 9)
@@ -40,3 +44,12 @@ lock-read = (refl, refl, refl)
 pub lock-written : bytesFor (Lock 98000 1) [] digits ≡ lock
 unfolding bytesFor tableFor numbersFor commandLines contentLines encode fill run at spread bitsOf times
 lock-written = refl
+
+-- ---- what the types of the two numbers that no answer is about give: u16 and u32
+pub year-held : (year month day hour minute second : ℕ) → year ≤ 65535 → held (Clock year month day hour minute second) ≡ true
+unfolding fine fill inside
+year-held year month day hour minute second h = rw (le-leb 0 year (omega arith), le-leb year 65535 h)
+
+pub khz-held : (khz n : ℕ) → khz ≤ 4294967295 → held (Lock khz n) ≡ true
+unfolding fine fill inside
+khz-held khz n h = rw (le-leb 0 khz (omega arith), le-leb khz 4294967295 h)
