@@ -91,9 +91,9 @@ fn shown(o: Opened, address: &[u8]) {
 
 // The content that a command is.
 fn carried(c: Command, codes: &[u8]) {
-    let digits = sister::digits_of(c, codes);
+    let digits = carry::digits_of(c, codes);
     say::text(b"content ");
-    reading::content(sister::content_of(c));
+    reading::content(carry::content_of(c));
     say::text(b"\ndigits");
     say::digits(&digits);
     say::text(b"\n");
@@ -161,8 +161,8 @@ pub(crate) fn write(b: &[u8]) {
 pub(crate) fn carry(b: &[u8]) {
     let digits = format::part(b, 12, 35);
     say::text(b"carried");
-    command(sister::command_of(writing::content(b)));
+    command(carry::command_of(writing::content(b)));
     say::text(b"\ncode");
-    say::digits(sister::code_of(writing::content(b), digits));
+    say::digits(carry::code_of(writing::content(b), digits));
     say::text(b"\n");
 }

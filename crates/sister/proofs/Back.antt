@@ -2,35 +2,36 @@
 use mathlib.Core.Path.{_≡_, refl, sym, ap, ap₂, _∙_}
 use mathlib.Core.List.{List, [], _∷_, _++_, append-nil}
 use mathlib.Core.Bool.{true, false, not, true≢false}
-use Prim.Native.Nat.{ℕ, zero, suc, _+_, _*_, _≤_}
+use Prim.Native.Nat.{ℕ, zero, suc, _+_, _*_, _≤_, _<_}
 use native.Mathlib.Omega.{arith}
 use lib.ListN.{length, take, drop, length-drop, take-append-drop}
 use lib.Seq.{length-take-le, drop-drop}
 use lib.Dec.{ltb, eqb}
 use borrow.Author.Tests.{eqb-true, not-false, le-leb, le-ltb, eq-eqb}
 use Rattle.laws.specs.Bits.{at, run, bits, bytes}
+use Rattle.laws.specs.Scan.{all}
 use Rattle.laws.proofs.Bits.{Under, at-small}
 use Rattle.laws.proofs.Cases.{and-both, and-yes, or-both, or-no}
 use Rattle.laws.proofs.Elements.{by-test}
 use Rattle.laws.proofs.Refusals.{not-due, pass, none-left}
 use Rattle.format.specs.declared.Line.{Line}
-use Rattle.format.specs.Format.{just, times, size, need, encode, decode, fill, flat, inside, lineOk, fine}
-use Rattle.format.proofs.Tables.{fine-append, fill-flat, length-flat, unmet-fine, all-times}
+use Rattle.format.specs.Format.{just, times, size, need, encode, decode, fill, flat, inside, lineOk, fine, unmet}
+use Rattle.format.proofs.Tables.{fine-append, fill-flat, length-flat, unmet-fine, all-append, all-times}
 use Rattle.format.proofs.Round.{write-read}
-use Rattle.packet.specs.Table.{countLine, contentLines, countIn}
-use Rattle.packet.specs.Content.{noSuchDay}
+use Rattle.packet.specs.declared.Counting.{Counting}
+use Rattle.packet.specs.declared.Counting.the-variants as counting
+use Rattle.packet.specs.Table.{code, countLine, countBy, countIn}
 use Rattle.packet.specs.Reading.{padded, partBy}
 use Rattle.trips.proofs.Accepted.{count-26}
 use Rattle.trips.proofs.Padded.{take-padded}
 use Rattle.sister.specs.declared.Kind.{Kind}
-use Rattle.sister.specs.declared.Kind.the-variants.{Clock, Resource, Lock, Unknown}
 use Rattle.sister.specs.declared.Command.{Command}
-use Rattle.sister.specs.Table.{kindOf, tagOf, isUnknownKind, rowFor, contentBytes, commandLines, addressCount, codeCount, commandOf, partsOf, kindFor, countFor}
-use Rattle.sister.specs.Carrying.{contentFor}
+use Rattle.sister.specs.Table.{commands, tagged, kindOf, tagOf, isUnknownKind, rowFor, contentBytes, commandLines, addressCount, codeCount, Parts, partsOf, kindFor, countFor, noDay}
 use Rattle.sister.specs.Reading as reading
 use Rattle.sister.specs.Reading.{kindIn, tagIn, lengthIn, countOf, tableOf, valuesIn, numbersIn, commandIn, codesIn, lengthBad, readAnswer, openedBy, opened, addressOf}
 use Rattle.sister.specs.Writing.{sizeFor, tableFor, numbersFor, valuesFor, bytesFor, countBad, digitBad, fieldBad, writtenAnswer, written, commandOutput}
 use Rattle.sister.specs.Given.{lentCodes}
+use Rattle.sister.proofs.Shape.{octet, firsts-are}
 use Rattle.sister.proofs.Rows as rows
 use Rattle.sister.proofs.There.{address-at}
 
@@ -42,7 +43,7 @@ pub record Accepted (b : List ℕ) : Type 0 where
   pub c24 : fine 24 (tableOf b) (valuesIn b) ≡ true
   pub c25 : fine 25 (tableOf b) (valuesIn b) ≡ true
   pub c27 : fine 27 (tableOf b) (valuesIn b) ≡ true
-  pub day : noSuchDay (contentFor (commandIn b)) ≡ false
+  pub day : noDay (commandIn b) ≡ false
 
 pub accepted : (b : List ℕ) → readAnswer b ≡ 0 → Accepted b
 unfolding readAnswer lengthBad reading.fieldBad
@@ -54,7 +55,7 @@ accepted b e =
     let q = not-due _ 25 _ (λ h. omega arith) (p .1) in
     let r = not-due _ 27 _ (λ h. omega arith) (q .1) in
     let l1 = and-both (eqb (length b) (3 + lengthIn b)) _ (not-false _ (l .0)) in
-    let r1 = or-both (not (fine 27 (tableOf b) (valuesIn b))) (noSuchDay (contentFor (commandIn b))) (r .0) in
+    let r1 = or-both (not (fine 27 (tableOf b) (valuesIn b))) (noDay (commandIn b)) (r .0) in
     record {
       known = k .0;
       whole = eqb-true _ _ (l1 .0);
@@ -65,72 +66,44 @@ accepted b e =
       day = r1 .1;
     }
 
--- ---- a clause a command
-kind-for : (f : Kind) (xs : List ℕ) (k : ℕ) → isUnknownKind f ≡ false → kindFor (commandOf f xs k) ≡ f
-kind-for Clock xs k h = refl
-kind-for Resource xs k h = refl
-kind-for Lock xs k h = refl
-kind-for Unknown xs k h = absurd (true≢false h)
+-- ---- counts and tags
+-- what is no count is 0, and stays it
+count-twice : (s : Counting) (x : ℕ) → countBy s (countBy s x 0) 0 ≡ countBy s x 0
+count-twice counting.Fixed x = refl
+count-twice counting.Counted x = refl
+count-twice counting.Raw x = refl
+count-twice counting.Unknown x = refl
 
-count-for : (f : Kind) (xs l : List ℕ) (k : ℕ) → k ≡ countIn (rowFor f) l 24 0 → countFor (commandOf f xs k) ≡ k
-count-for Clock xs l k e = sym e
-count-for Resource xs l k e = refl
-count-for Lock xs l k e = refl
-count-for Unknown xs l k e = sym e
-
-numbers-for : (f : Kind) (xs : List ℕ) (k : ℕ) → need (rowFor f .before) ≤ length xs → partsOf (commandOf f xs k) .numbers ≡ take (need (rowFor f .before)) xs
-unfolding need
-numbers-for Clock [] k h = absurd (omega arith)
-numbers-for Clock (a ∷ []) k h = absurd (omega arith)
-numbers-for Clock (a ∷ b ∷ []) k h = absurd (omega arith)
-numbers-for Clock (a ∷ b ∷ c ∷ []) k h = absurd (omega arith)
-numbers-for Clock (a ∷ b ∷ c ∷ d ∷ []) k h = absurd (omega arith)
-numbers-for Clock (a ∷ b ∷ c ∷ d ∷ e ∷ []) k h = absurd (omega arith)
-numbers-for Clock (a ∷ b ∷ c ∷ d ∷ e ∷ g ∷ xs) k h = refl
-numbers-for Resource xs k h = refl
-numbers-for Lock [] k h = absurd (omega arith)
-numbers-for Lock (x ∷ xs) k h = refl
-numbers-for Unknown xs k h = refl
+count-few : (s : Counting) (x : ℕ) → x < 256 → countBy s x 0 ≤ 255
+count-few counting.Fixed x h = omega arith
+count-few counting.Counted x h = omega arith
+count-few counting.Raw x h = omega arith
+count-few counting.Unknown x h = omega arith
 
 pub count-small : (f : Kind) (b : List ℕ) → countIn (rowFor f) (bits b) 24 0 ≤ 255
-count-small Clock b = omega arith
-count-small Resource b = omega (arith, at-small b (24 + size (rowFor Resource .before)) 8 8 (omega arith))
-count-small Lock b = omega (arith, at-small b (24 + size (rowFor Lock .before)) 8 8 (omega arith))
-count-small Unknown b = omega arith
+count-small f b = count-few (rowFor f .counting) _ (at-small b (24 + size (rowFor f .before)) 8 8 (omega arith))
 
-codes-few : (f : Kind) (k : ℕ) → k ≤ 255 → 23 * codeCount f k ≤ 5865
-codes-few Clock k h = omega arith
-codes-few Resource k h = omega arith
-codes-few Lock k h = omega arith
-codes-few Unknown k h = omega arith
-
-tag-back : (t : ℕ) → isUnknownKind (kindOf t) ≡ false → t ≡ tagOf (kindOf t)
-unfolding kindOf
-tag-back t h =
-    by-test (eqb t 1)
-    (λ a. rw a (eqb-true t 1 a))
-    (λ a. by-test (eqb t 2)
-    (λ b. rw (a, b) (eqb-true t 2 b))
-    (λ b. by-test (eqb t 3)
-    (λ d. rw (a, b, d) (eqb-true t 3 d))
-    (λ d. absurd (true≢false (rw (a, b, d) at h)))))
+tag-back : (t : ℕ) (fs : List Kind) → isUnknownKind (tagged t fs) ≡ false → t ≡ tagOf (tagged t fs)
+unfolding tagged
+tag-back t [] h = absurd (true≢false h)
+tag-back t (f ∷ fs) h = by-test (eqb t (tagOf f)) (λ a. rw a (eqb-true t (tagOf f) a)) (λ a. rw a (tag-back t fs (rw a at h)))
 
 same-26 : (w x y : ℕ) → y ≡ x → lineOk 26 (just w x) (y ∷ []) ≡ true
 unfolding inside
 same-26 w x y e = rw (e, le-leb x x (omega arith))
 
 lines-26 : (f : Kind) (k : ℕ) (l : List ℕ) → at l 0 8 ≡ tagOf f → at l 8 16 ≡ contentBytes f k → k ≡ countIn (rowFor f) l 24 0 → fine 26 (commandLines f k) (decode (commandLines f k) l 0) ≡ true
-unfolding commandLines contentLines fine decode run
+unfolding fine decode run all
 lines-26 f k l t n c =
     let r = rowFor f in
-    let u = rows.unmet-26 f in
     let L = countLine (r .counting) k in
-    let M = times k (r .each) in
-    and-yes _ (same-26 8 (tagOf f) (at l 0 8) t) ∙ and-yes _ (same-26 16 (contentBytes f k) (at l 8 16) n)
-    ∙ fine-append 26 (r .before) (L ++ (M ++ r .after)) l 24 ∙ and-yes _ (unmet-fine 26 (r .before) _ (u .before))
-    ∙ fine-append 26 L (M ++ r .after) l (24 + size (r .before)) ∙ and-yes _ (count-26 r l 24 0 k c)
-    ∙ fine-append 26 M (r .after) l (24 + size (r .before) + size L) ∙ and-yes _ (unmet-fine 26 M _ (all-times _ k (r .each) (u .each)))
-    ∙ unmet-fine 26 (r .after) _ (u .after)
+    let O = times (addressCount f k) octet in
+    let C = times (codeCount f k) code in
+    ap (λ (ts : List Line). fine 26 ts (decode ts l 0)) (rows.whole f k)
+    ∙ and-yes _ (same-26 8 (tagOf f) (at l 0 8) t) ∙ and-yes _ (same-26 16 (contentBytes f k) (at l 8 16) n)
+    ∙ fine-append 26 (r .before) (L ++ (O ++ C)) l 24 ∙ and-yes _ (unmet-fine 26 (r .before) _ (rows.first-26 f))
+    ∙ fine-append 26 L (O ++ C) l (24 + size (r .before)) ∙ and-yes _ (count-26 r l 24 0 k c)
+    ∙ unmet-fine 26 (O ++ C) _ (all-append (unmet 26) O C ∙ and-yes _ (all-times (unmet 26) (addressCount f k) octet refl) ∙ all-times (unmet 26) (codeCount f k) code refl)
 
 module _ (b : List ℕ) (z : Accepted b) where
   abbrev f : Kind
@@ -170,11 +143,11 @@ module _ (b : List ℕ) (z : Accepted b) where
 
   kind-is : kindFor (commandIn b) ≡ f
   unfolding commandIn
-  kind-is = kind-for f xs k (z .known)
+  kind-is = ap (λ (p : Parts). p .kind) (rows.parts-back f xs k)
 
   count-is : countFor (commandIn b) ≡ k
   unfolding commandIn
-  count-is = count-for f xs (bits b) k k-is
+  count-is = ap (λ (p : Parts). p .count) (rows.parts-back f xs k) ∙ ap (λ (x : ℕ). countBy (rowFor f .counting) x 0) k-is ∙ count-twice (rowFor f .counting) (at (bits b) (24 + size (rowFor f .before)) 8) ∙ sym k-is
 
   size-is : sizeFor (commandIn b) ≡ length b
   size-is = ap₂ (λ (g : Kind) (x : ℕ). 3 + contentBytes g x) kind-is count-is ∙ sym long
@@ -185,7 +158,7 @@ module _ (b : List ℕ) (z : Accepted b) where
 
   numbers-are : partsOf (commandIn b) .numbers ≡ take n xs
   unfolding commandIn
-  numbers-are = numbers-for f xs k (omega (arith, xs-long))
+  numbers-are = ap (λ (p : Parts). p .numbers) (rows.parts-back f xs k) ∙ firsts-are 0 n xs (omega (arith, xs-long))
 
   codes-long : length (codesIn b) ≡ 23 * codeCount f k
   unfolding codesIn
@@ -210,7 +183,7 @@ module _ (b : List ℕ) (z : Accepted b) where
   lent-are =
       ap₂ (λ (g : Kind) (x : ℕ). take (23 * codeCount g x) (padded 5865 (codesIn b))) kind-is count-is
       ∙ ap₂ (λ (x : ℕ) (l : List ℕ). take x (padded 5865 l)) (sym codes-long) (sym (append-nil (codesIn b)))
-      ∙ take-padded 5865 (codesIn b) [] (omega (arith, codes-long, codes-few f k k-small))
+      ∙ take-padded 5865 (codesIn b) [] (omega (arith, codes-long, rows.places f k k-small .1))
 
   module _ (under : Under 256 b) (e : readAnswer b ≡ 0) where
     abbrev c : Command
@@ -221,8 +194,12 @@ module _ (b : List ℕ) (z : Accepted b) where
     all-numbers =
         ap₂ _++_ numbers-are (ap₂ _++_ (address-is under e) codes-are ∙ take-append-drop m (drop n xs)) ∙ take-append-drop n xs
 
+    tag-is : isUnknownKind (kindIn b) ≡ false → tagIn b ≡ tagOf (kindIn b)
+    unfolding kindOf
+    tag-is = tag-back (tagIn b) commands
+
     lines : fine 26 ts (decode ts (bits b) 0) ≡ true
-    lines = lines-26 f k (bits b) (tag-back (tagIn b) (z .known)) (z .right) k-is
+    lines = lines-26 f k (bits b) (tag-is (z .known)) (z .right) k-is
 
     filled : fill ts xs ≡ decode ts (bits b) 0
     unfolding tableOf

@@ -1,8 +1,8 @@
 pub mod Examples
+pub mod Shape
 pub mod Rows
 pub mod There
 pub mod Back
-pub mod Carried
 pub mod Found
 pub mod Put
 pub mod Says

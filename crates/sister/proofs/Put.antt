@@ -1,8 +1,8 @@
 -- A command put into bits part by part, and the lines that the writer's answers are about. Assumes nothing.
 use mathlib.Core.Path.{_≡_, refl, sym, ap, ap₂, _∙_}
 use mathlib.Core.List.{List, [], _∷_, _++_, append-nil, append-assoc}
-use mathlib.Core.Bool.{false}
-use Prim.Native.Nat.{ℕ, zero, suc, _+_, _*_, _-_, _≤_, _<_}
+use mathlib.Core.Bool.{Bool, false, _&&_, and-true}
+use Prim.Native.Nat.{ℕ, suc, _+_, _*_, _-_, _≤_, _<_}
 use native.Mathlib.Omega.{arith}
 use lib.ListN.{length, take, drop, length-append, length-drop}
 use lib.Seq.{sets, length-take-le, drop-drop}
@@ -13,20 +13,27 @@ use Rattle.laws.specs.Scan.{all}
 use Rattle.laws.proofs.Bits.{length-bitsOf, length-spread}
 use Rattle.laws.proofs.Cases.{if-yes, and-both, and-yes}
 use Rattle.laws.proofs.Writes.{sets-append, join}
-use Rattle.format.specs.Format.{octets, times, need, encode, fill, inside, fine, unmet}
+use Rattle.format.specs.declared.Line.{Line}
+use Rattle.format.specs.Format.{times, encode, fill, inside, fine, unmet}
 use Rattle.format.specs.Reach.{fieldBits, fieldsBits}
 use Rattle.format.proofs.Leaves.{reached}
-use Rattle.format.proofs.Tables.{fill-join, encode-join, length-fill, unmet-fine, all-append, all-times}
-use Rattle.packet.specs.Table.{code, contentLines}
-use Rattle.trips.proofs.Fitting.{nil-of}
-use Rattle.writer.proofs.Fine.{two-fine}
+use Rattle.format.proofs.Tables.{unmet-fine, all-times}
+use Rattle.packet.specs.Table.{code, countLine}
+use Rattle.packet.specs.Reading.{partAt}
+use Rattle.packet.proofs.Column.{count-size}
+use Rattle.trips.proofs.Parts.{count-need, all-count}
+use Rattle.writer.proofs.Rows.{encode-size}
 use Rattle.writer.proofs.Rules.{codes-digits}
+use Rattle.sister.specs.declared.Kind.{Kind}
 use Rattle.sister.specs.declared.Command.{Command}
-use Rattle.sister.specs.declared.Command.the-variants.{Clock, Resource, Lock, Unknown}
-use Rattle.sister.specs.Table.{tagOf, rowFor, contentBytes, commandLines, addressCount, codeCount, partsOf, kindFor, countFor}
+use Rattle.sister.specs.declared.Command.the-variants.{Clock, Resource, Lock}
+use Rattle.sister.specs.declared.parts.Layout.{Layout}
+use Rattle.sister.specs.Table.{tagOf, rowFor, contentBytes, addressCount, codeCount, partsOf, kindFor, countFor}
 use Rattle.sister.specs.Writing.{tableFor, numbersFor, valuesFor, countBad}
-use Rattle.sister.specs.Layout.{codesAt, headBits, numberBits, codeBits}
-use Rattle.sister.proofs.Found.{octets-need}
+use Rattle.sister.specs.Layout.{codesAt, layoutOf, headBits, numberBits, codeBits}
+use Rattle.sister.proofs.Shape.{octet, shaped, shaped-fine, shaped-encode}
+use Rattle.sister.proofs.Rows as rows
+use Rattle.sister.proofs.There.{numbers-long}
 
 -- ---- what is lent is as much as the command has
 pub record Counted (c : Command) (address codes : List ℕ) : Type 0 where
@@ -76,81 +83,114 @@ unfolding codeBits times encode
 code-end codes o all n j q i h e = let r : n - j ≡ 0 = omega arith in sym (e ∙ rw r)
 
 -- ---- the whole command
-address-bits : (k : ℕ) (xs : List ℕ) → length xs ≡ k → encode (times k (octets 1 ∷ [])) (fill (times k (octets 1 ∷ [])) xs) ≡ spread 8 xs
-unfolding times encode fill spread
-address-bits zero [] h = refl
-address-bits zero (x ∷ xs) h = absurd (omega arith)
-address-bits (suc k) [] h = absurd (omega arith)
-address-bits (suc k) (x ∷ xs) h = rw (append-nil (bitsOf 8 x), address-bits k xs (omega arith))
+module _ (c : Command) (address codes : List ℕ) (h : Counted c address codes) where
+  abbrev f : Kind
+  f = kindFor c
 
-pub all-bits : (c : Command) (address codes : List ℕ) → Counted c address codes
-    → encode (tableFor c) (valuesFor c address codes)
-    ≡ headBits (tagOf (kindFor c)) (contentBytes (kindFor c) (countFor c)) ++ (numberBits c ++ (spread 8 address ++ codeBits (codeCount (kindFor c) (countFor c)) codes))
-unfolding tableFor numbersFor commandLines contentLines encode fill spread times codeBits
-all-bits (Clock year month day hour minute second) address codes h =
-    rw (nil-of address (h .address-long)) (simp (append-nil, append-assoc))
-all-bits (Resource m) address codes h =
-    let A = times m (octets 1 ∷ []) in
-    let n : length address ≡ need A = h .address-long ∙ sym (octets-need m) in
-    rw (fill-join A code address codes n, encode-join A code (fill A address) (fill code codes) (length-fill A address), address-bits m address (h .address-long))
-    (simp (append-nil, append-assoc))
-all-bits (Lock khz n) address codes h =
-    rw (nil-of address (h .address-long), append-nil (times n code)) (simp (append-nil, append-assoc))
-all-bits Unknown address codes h =
-    rw (nil-of address (h .address-long)) (simp append-nil)
+  abbrev k : ℕ
+  k = countFor c
 
--- ---- the lines that an answer is about
-pub fine-25 : (c : Command) (address codes : List ℕ) → Counted c address codes → fine 25 (tableFor c) (valuesFor c address codes) ≡ inside 0 9 codes
-unfolding tableFor numbersFor commandLines contentLines fine fill times inside all
-fine-25 (Clock year month day hour minute second) address codes h = rw (nil-of codes (h .codes-long))
-fine-25 (Resource m) address codes h =
-    let A = times m (octets 1 ∷ []) in
-    two-fine 25 A code address codes (h .address-long ∙ sym (octets-need m))
-    ∙ and-yes _ (unmet-fine 25 A (fill A address) (all-times (unmet 25) m (octets 1 ∷ []) refl))
-    ∙ codes-digits 1 codes (h .codes-long)
-fine-25 (Lock khz n) address codes h =
-    rw (nil-of address (h .address-long), append-nil (times n code)) (codes-digits n codes (omega (arith, h .codes-long)))
-fine-25 Unknown address codes h = rw (nil-of codes (h .codes-long))
+  abbrev m : ℕ
+  m = addressCount f k
 
-pub fine-27 : (c : Command) (address codes : List ℕ) → fine 27 (tableFor c) (valuesFor c address codes) ≡ fine 27 (rowFor (kindFor c) .before) (fill (rowFor (kindFor c) .before) (partsOf c .numbers))
-unfolding tableFor numbersFor commandLines contentLines fine fill times all
-fine-27 (Clock year month day hour minute second) address codes = refl
-fine-27 (Resource m) address codes =
-    let A = times m (octets 1 ∷ []) in
-    unmet-fine 27 (A ++ code) _ (all-append (unmet 27) A code ∙ and-yes _ (all-times (unmet 27) m (octets 1 ∷ []) refl))
-fine-27 (Lock khz n) address codes = unmet-fine 27 (times n code ++ []) _ (ap (all (unmet 27)) (append-nil (times n code)) ∙ all-times (unmet 27) n code refl)
-fine-27 Unknown address codes = refl
+  abbrev n : ℕ
+  n = codeCount f k
+
+  abbrev xs : List ℕ
+  xs = partsOf c .numbers ++ (address ++ codes)
+
+  pub all-bits : encode (tableFor c) (valuesFor c address codes) ≡ headBits (tagOf f) (contentBytes f k) ++ (numberBits c ++ (spread 8 address ++ codeBits n codes))
+  unfolding tableFor numbersFor encode fill spread numberBits codeBits
+  all-bits =
+      let B = rowFor f .before in
+      let L = countLine (rowFor f .counting) k in
+      let t = bitsOf 8 (tagOf f) in
+      let s = bitsOf 16 (contentBytes f k) in
+      let S = shaped (rowFor f) k m n in
+      let E = encode S (fill S xs) in
+      ap (λ (ts : List Line). encode ts (fill ts xs)) (rows.whole f k)
+      ∙ ap₂ (λ (u v : List ℕ). u ++ (v ++ E)) (append-nil t) (append-nil s) ∙ sym (append-assoc t s E)
+      ∙ ap (λ (l : List ℕ). (t ++ s) ++ l)
+      (shaped-encode (rowFor f) k m n (partsOf c .numbers) address codes (numbers-long c) (h .address-long)
+      ∙ sym (append-assoc (encode B (fill B (partsOf c .numbers))) (encode L (fill L [])) (spread 8 address ++ encode (times n code) (fill (times n code) codes))))
+
+  -- ---- the lines that an answer is about
+  pub fine-25 : fine 25 (tableFor c) (valuesFor c address codes) ≡ inside 0 9 codes
+  unfolding tableFor numbersFor fine fill all
+  fine-25 =
+      ap (λ (ts : List Line). fine 25 ts (fill ts xs)) (rows.whole f k)
+      ∙ shaped-fine (rowFor f) k m n (partsOf c .numbers) address codes (numbers-long c) (h .address-long) 25
+      ∙ and-yes _ (unmet-fine 25 (rowFor f .before) _ (rows.first-25 f))
+      ∙ and-yes _ (unmet-fine 25 (countLine (rowFor f .counting) k) _ (all-count (unmet 25) (rowFor f .counting) k refl))
+      ∙ and-yes _ (unmet-fine 25 (times m octet) _ (all-times (unmet 25) m octet refl))
+      ∙ codes-digits n codes (omega (arith, h .codes-long))
+
+  pub fine-27 : fine 27 (tableFor c) (valuesFor c address codes) ≡ fine 27 (rowFor f .before) (fill (rowFor f .before) (partsOf c .numbers))
+  unfolding tableFor numbersFor fine fill all
+  fine-27 =
+      let F = fine 27 (rowFor f .before) (fill (rowFor f .before) (partsOf c .numbers)) in
+      ap (λ (ts : List Line). fine 27 ts (fill ts xs)) (rows.whole f k)
+      ∙ shaped-fine (rowFor f) k m n (partsOf c .numbers) address codes (numbers-long c) (h .address-long) 27
+      ∙ ap (λ (b : Bool). F && b)
+      (and-yes _ (unmet-fine 27 (countLine (rowFor f .counting) k) _ (all-count (unmet 27) (rowFor f .counting) k refl))
+      ∙ and-yes _ (unmet-fine 27 (times m octet) _ (all-times (unmet 27) m octet refl))
+      ∙ unmet-fine 27 (times n code) _ (all-times (unmet 27) n code refl))
+      ∙ and-true F
+
+-- ---- the bits of numbers and count, as the code puts them
+pub clock-bits : (year month day hour minute second : ℕ) → bitsOf 16 year ++ spread 8 (month ∷ day ∷ hour ∷ minute ∷ second ∷ []) ≡ numberBits (Clock year month day hour minute second)
+unfolding numberBits encode fill spread
+clock-bits year month day hour minute second = simp (append-nil, append-assoc)
+
+pub resource-bits : (m : ℕ) → bitsOf 8 m ≡ numberBits (Resource m)
+unfolding numberBits encode fill spread
+resource-bits m = simp append-nil
+
+pub lock-bits : (khz n : ℕ) → bitsOf 32 khz ++ bitsOf 8 n ≡ numberBits (Lock khz n)
+unfolding numberBits encode fill spread
+lock-bits khz n = simp append-nil
 
 -- ---- the parts one behind the other
-numbers-end : (c : Command) (n : ℕ) → n ≡ addressCount (kindFor c) (countFor c) → 24 + length (numberBits c) ≡ codesAt (kindFor c) (countFor c) - 8 * n
-unfolding spread
-numbers-end (Clock year month day hour minute second) n e = omega (arith, e, length-append (bitsOf 16 year) (spread 8 (month ∷ day ∷ hour ∷ minute ∷ second ∷ [])), length-bitsOf 16 year, length-spread 8 (month ∷ day ∷ hour ∷ minute ∷ second ∷ []))
-numbers-end (Resource m) n e = omega (arith, e, length-bitsOf 8 m)
-numbers-end (Lock khz k) n e = omega (arith, e, length-append (bitsOf 32 khz) (bitsOf 8 k), length-bitsOf 32 khz, length-bitsOf 8 k)
-numbers-end Unknown n e = omega (arith, e)
+numbers-end : (c : Command) → length (numberBits c) ≡ partAt (rowFor (kindFor c))
+unfolding numberBits partAt
+numbers-end c =
+    let B = rowFor (kindFor c) .before in
+    let s = rowFor (kindFor c) .counting in
+    let L = countLine s (countFor c) in
+    length-append (encode B (fill B (partsOf c .numbers))) (encode L (fill L []))
+    ∙ omega (arith, encode-size B (partsOf c .numbers) (omega (arith, numbers-long c)), encode-size L [] (omega (arith, count-need s (countFor c))), count-size s (countFor c), count-size s 0)
 
-pub address-end : (c : Command) (n : ℕ) → n ≡ addressCount (kindFor c) (countFor c) → 8 * n ≤ codesAt (kindFor c) (countFor c)
-address-end (Clock year month day hour minute second) n e = omega (arith, e)
-address-end (Resource m) n e = omega (arith, e)
-address-end (Lock khz k) n e = omega (arith, e)
-address-end Unknown n e = omega (arith, e)
+-- how far a layout goes
+pub reaches : (c : Command) (l : Layout) → l ≡ layoutOf (kindFor c) (countFor c) → countFor c ≤ 255 → (l .bytes < 65536) × (8 * l .address ≤ l .place) × (l .place ≤ 2200) × (l .codes ≤ 255) × (l .address ≤ 255)
+unfolding codesAt
+reaches c l e h =
+    let z = rows.places (kindFor c) (countFor c) h in
+    let a = ap (λ (y : Layout). y .address) e in
+    let p = ap (λ (y : Layout). y .place) e in
+    (omega (arith, ap (λ (y : Layout). y .bytes) e, rows.few-bytes (kindFor c) (countFor c) h), omega (arith, a, p), omega (arith, p, z .0), omega (arith, ap (λ (y : Layout). y .codes) e, z .1), omega (arith, a, z .2))
 
-pub together : (c : Command) (address codes o o₁ o₂ o₃ o₄ : List ℕ) (place n : ℕ) → Counted c address codes → place ≡ codesAt (kindFor c) (countFor c) → n ≡ addressCount (kindFor c) (countFor c)
-    → bits o₁ ≡ sets (bits o) 0 (headBits (tagOf (kindFor c)) (contentBytes (kindFor c) (countFor c)))
+pub together : (c : Command) (address codes o o₁ o₂ o₃ o₄ : List ℕ) (l : Layout) (t : ℕ) → Counted c address codes → l ≡ layoutOf (kindFor c) (countFor c) → t ≡ tagOf (kindFor c)
+    → bits o₁ ≡ sets (bits o) 0 (headBits t (l .bytes))
     → bits o₂ ≡ sets (bits o₁) 24 (numberBits c)
-    → bits o₃ ≡ sets (bits o₂) (place - 8 * n) (spread 8 address)
-    → bits o₄ ≡ sets (bits o₃) place (codeBits (codeCount (kindFor c) (countFor c)) codes)
+    → bits o₃ ≡ sets (bits o₂) (l .place - 8 * l .address) (fieldsBits (l .place - 8 * l .address) 8 address)
+    → bits o₄ ≡ sets (bits o₃) (l .place) (codeBits (l .codes) codes)
     → bits o₄ ≡ sets (bits o) 0 (encode (tableFor c) (valuesFor c address codes))
-together c address codes o o₁ o₂ o₃ o₄ place n h ep en e₁ e₂ e₃ e₄ =
-    let H = headBits (tagOf (kindFor c)) (contentBytes (kindFor c) (countFor c)) in
+unfolding codesAt
+together c address codes o o₁ o₂ o₃ o₄ l t h e et e₁ e₂ e₃ e₄ =
+    let f = kindFor c in
+    let k = countFor c in
+    let H = headBits t (l .bytes) in
     let N = numberBits c in
     let A = spread 8 address in
-    let C = codeBits (codeCount (kindFor c) (countFor c)) codes in
-    let hl : length H ≡ 24 = length-append (bitsOf 8 (tagOf (kindFor c))) (bitsOf 16 (contentBytes (kindFor c) (countFor c))) ∙ omega (arith, length-bitsOf 8 (tagOf (kindFor c)), length-bitsOf 16 (contentBytes (kindFor c) (countFor c))) in
-    let ne = numbers-end c n en in
-    let ae = address-end c n en in
-    let al = length-spread 8 address in
-    let q : place ≡ place - 8 * n + length A = omega (arith, ep, ae, al, en, h .address-long) in
-    let x = join (bits o₂) (bits o₃) (bits o₄) A C (place - 8 * n) place e₃ e₄ q in
-    let y = join (bits o₁) (bits o₂) (bits o₄) N (A ++ C) 24 (place - 8 * n) e₂ x (omega (arith, ep, ne)) in
-    join (bits o) (bits o₁) (bits o₄) H (N ++ (A ++ C)) 0 24 e₁ y (omega (arith, hl)) ∙ ap (sets (bits o) 0) (sym (all-bits c address codes h))
+    let C = codeBits (l .codes) codes in
+    let q = l .place - 8 * l .address in
+    let z = reaches c l e (h .few) in
+    let a = ap (λ (y : Layout). y .address) e in
+    let p = ap (λ (y : Layout). y .place) e in
+    let hl : length H ≡ 24 = length-append (bitsOf 8 t) (bitsOf 16 (l .bytes)) ∙ omega (arith, length-bitsOf 8 t, length-bitsOf 16 (l .bytes)) in
+    let w = numbers-put o₂ o₃ address q 8 (omega (arith, z .2)) (omega arith) (omega (arith, h .address-long, a, z .4)) e₃ in
+    let x = join (bits o₂) (bits o₃) (bits o₄) A C q (l .place) w e₄ (omega (arith, z .1, a, h .address-long, length-spread 8 address)) in
+    let y = join (bits o₁) (bits o₂) (bits o₄) N (A ++ C) 24 q e₂ x (omega (arith, p, a, numbers-end c)) in
+    join (bits o) (bits o₁) (bits o₄) H (N ++ (A ++ C)) 0 24 e₁ y (omega (arith, hl))
+    ∙ ap₂ (λ (u : ℕ) (v : Layout). sets (bits o) 0 (headBits u (v .bytes) ++ (N ++ (A ++ codeBits (v .codes) codes)))) et e
+    ∙ ap (sets (bits o) 0) (sym (all-bits c address codes h))

@@ -1,125 +1,165 @@
--- What a computed test finds of every command's row, and what follows of the whole table. Assumes nothing.
-use mathlib.Core.Path.{_≡_, refl, _∙_}
-use mathlib.Core.Bool.{Bool, true}
+-- What a computed test finds of every command, and what follows of its whole table. Assumes nothing.
+use mathlib.Core.Path.{_≡_, refl, sym, ap, ap₂, _∙_}
+use mathlib.Core.Bool.{Bool, true, _||_}
 use mathlib.Core.List.{List, [], _∷_, _++_}
 use Prim.Native.Nat.{ℕ, _+_, _*_, _≤_, _<_}
+use native.Mathlib.Nat.{add-mul, mul-assoc, mul-le-mul-left}
 use native.Mathlib.Omega.{arith}
-use borrow.Author.Tests.{lt-ltb, eq-eqb}
-use lib.Dec.{ltb}
+use borrow.Author.Tests.{lt-ltb, eq-eqb, eqb-true, leb-true}
+use lib.Dec.{ltb, leb, eqb}
 use lib.ListN.{getD}
 use Rattle.laws.specs.Scan.{all}
 use Rattle.laws.proofs.Elements.{all-at}
 use Rattle.laws.proofs.Cases.{and-yes}
 use Rattle.format.specs.declared.Line.{Line}
 use Rattle.format.specs.Format.{just, times, size, need, unmet}
-use Rattle.format.proofs.Tables.{given, settled, all-append, all-times}
-use Rattle.packet.specs.Table.{Row, countLine, contentLines}
+use Rattle.format.proofs.Tables.{given, settled}
+use Rattle.packet.specs.Table.{countLine, code, contentLines, countBy}
 use Rattle.packet.specs.Reading.{partAt}
-use Rattle.packet.proofs.Column.{content-size}
 use Rattle.trips.proofs.Fitting.{tight}
-use Rattle.trips.proofs.Parts.{all-count, content-need}
 use Rattle.sister.specs.declared.Kind.{Kind}
 use Rattle.sister.specs.declared.Kind.the-variants.{Clock, Resource, Lock, Unknown}
-use Rattle.sister.specs.Table.{tagOf, rowFor, contentBytes, commandLines, addressCount, codeCount}
-
-abbrev pub kinds : List Kind
-kinds = Clock ∷ Resource ∷ Lock ∷ Unknown ∷ []
+use Rattle.sister.specs.Table.{tagged, kindOf, tagOf, rowFor, amountsOf, contentBytes, addressCount, codeCount, commandLines, commandOf, partsOf}
+use Rattle.sister.specs.Layout.{codesAt}
+use Rattle.sister.proofs.Shape.{octet, free, firsts, shaped, rows-apart, shaped-size, shaped-need, shaped-all}
 
 -- what is found of all holds of each
-module _ (P : Kind → Bool) (h : all P kinds ≡ true) where
-  pub each-kind : (f : Kind) → P f ≡ true
-  each-kind Clock = all-at P kinds 0 Unknown h (omega arith)
-  each-kind Resource = all-at P kinds 1 Unknown h (omega arith)
-  each-kind Lock = all-at P kinds 2 Unknown h (omega arith)
-  each-kind Unknown = all-at P kinds 3 Unknown h (omega arith)
+each-kind : (P : Kind → Type 0) → P Clock × P Resource × P Lock × P Unknown → (f : Kind) → P f
+each-kind P h Clock = h .0
+each-kind P h Resource = h .1
+each-kind P h Lock = h .2
+each-kind P h Unknown = h .3
 
--- a test of the lines of a row
-pub record Every (g : Line → Bool) (r : Row) : Type 0 where
-  pub before : all g (r .before) ≡ true
-  pub each : all g (r .each) ≡ true
-  pub after : all g (r .after) ≡ true
+-- ---- found by computing
+-- what is repeated is bytes of address or codes, and behind it stand codes
+each-is : (f : Kind) → rowFor f .each ≡ times (amountsOf f .addressEach) octet ++ times (amountsOf f .codesEach) code
+unfolding times
+each-is = each-kind (λ (f : Kind). rowFor f .each ≡ times (amountsOf f .addressEach) octet ++ times (amountsOf f .codesEach) code) (refl, refl, refl, refl)
 
--- lines whose numbers are of their bits; those of 24 and of 26 are the table's; each that is not free is settled, and none is due 26
+after-is : (f : Kind) → rowFor f .after ≡ times (amountsOf f .codes) code
+unfolding times
+after-is = each-kind (λ (f : Kind). rowFor f .after ≡ times (amountsOf f .codes) code) (refl, refl, refl, refl)
+
+pub kind-back : (f : Kind) → kindOf (tagOf f) ≡ f
+unfolding kindOf tagged
+kind-back = each-kind (λ (f : Kind). kindOf (tagOf f) ≡ f) (refl, refl, refl, refl)
+
+-- the parts of the command of some numbers are these numbers
+pub parts-back : (f : Kind) (xs : List ℕ) (k : ℕ) → partsOf (commandOf f xs k) ≡ record { kind = f; numbers = firsts 0 (need (rowFor f .before)) xs; count = countBy (rowFor f .counting) k 0 }
+unfolding need firsts
+parts-back =
+    each-kind (λ (f : Kind). (xs : List ℕ) (k : ℕ) → partsOf (commandOf f xs k) ≡ record { kind = f; numbers = firsts 0 (need (rowFor f .before)) xs; count = countBy (rowFor f .counting) k 0 })
+    (λ xs k. refl, λ xs k. refl, λ xs k. refl, λ xs k. refl)
+
+-- the first lines: their numbers are of their bits, they are free, and no concern of 24, 25 and 26; small amounts, and those of the lines
 abbrev tests : Kind → List Bool
 tests f =
-    all tight (rowFor f .before) ∷ all tight (rowFor f .each) ∷ all tight (rowFor f .after)
-    ∷ all (given 24) (rowFor f .before) ∷ all (given 24) (rowFor f .each) ∷ all (given 24) (rowFor f .after)
-    ∷ all (given 26) (rowFor f .before) ∷ all (given 26) (rowFor f .each) ∷ all (given 26) (rowFor f .after)
-    ∷ all settled (rowFor f .before) ∷ all settled (rowFor f .each) ∷ all settled (rowFor f .after)
-    ∷ all (unmet 26) (rowFor f .before) ∷ all (unmet 26) (rowFor f .each) ∷ all (unmet 26) (rowFor f .after)
+    all tight (rowFor f .before)
+    ∷ all (given 24) (rowFor f .before)
+    ∷ all (given 26) (rowFor f .before)
+    ∷ all settled (rowFor f .before)
+    ∷ all (unmet 24) (rowFor f .before)
+    ∷ all (unmet 25) (rowFor f .before)
+    ∷ all (unmet 26) (rowFor f .before)
+    ∷ all free (rowFor f .before)
     ∷ ltb (tagOf f) 256
+    ∷ eqb (amountsOf f .addressEach * amountsOf f .codesEach) 0
+    ∷ eqb (partAt (rowFor f) + 96 * amountsOf f .codes) (8 * amountsOf f .bytes)
+    ∷ eqb (amountsOf f .addressEach + 12 * amountsOf f .codesEach) (amountsOf f .bytesEach)
+    ∷ leb (amountsOf f .bytes + amountsOf f .bytesEach * 255) 3065
+    ∷ leb (amountsOf f .codes + amountsOf f .codesEach * 255) 255
+    ∷ leb (amountsOf f .addressEach) 1
+    ∷ leb (partAt (rowFor f)) 56
+    ∷ (eqb (amountsOf f .addressEach) 0 || eqb (partAt (rowFor f)) 8)
     ∷ []
 
-abbrev passed : Kind → Bool
-passed f = all (λ (b : Bool). b) (tests f)
+passed : (f : Kind) → all (λ (b : Bool). b) (tests f) ≡ true
+unfolding all size partAt
+passed = each-kind (λ (f : Kind). all (λ (b : Bool). b) (tests f) ≡ true) (refl, refl, refl, refl)
 
-all-pass : all passed kinds ≡ true
-unfolding all
-all-pass = refl
+at : (f : Kind) (i : ℕ) → i < 17 → getD (tests f) i true ≡ true
+at f i l = all-at (λ (b : Bool). b) (tests f) i true (passed f) l
 
-at : (f : Kind) (i : ℕ) → i < 16 → getD (tests f) i true ≡ true
-at f i l = all-at (λ (b : Bool). b) (tests f) i true (each-kind passed all-pass f) l
+pub first-24 : (f : Kind) → all (unmet 24) (rowFor f .before) ≡ true
+first-24 f = at f 4 (omega arith)
 
--- of the whole command
-module _ (g : Line → Bool) (f : Kind) (k : ℕ) where
-  every : g (just 8 (tagOf f)) ≡ true → g (just 16 (contentBytes f k)) ≡ true → g (just 8 k) ≡ true → Every g (rowFor f) → all g (commandLines f k) ≡ true
-  unfolding commandLines contentLines all
-  every h1 h2 h3 e =
+pub first-25 : (f : Kind) → all (unmet 25) (rowFor f .before) ≡ true
+first-25 f = at f 5 (omega arith)
+
+pub first-free : (f : Kind) → all free (rowFor f .before) ≡ true
+first-free f = at f 7 (omega arith)
+
+-- where there is an address, it is behind the count alone
+pub address-place : (f : Kind) → (eqb (amountsOf f .addressEach) 0 || eqb (partAt (rowFor f)) 8) ≡ true
+address-place f = at f 16 (omega arith)
+
+-- ---- of the whole table
+module _ (f : Kind) (k : ℕ) where
+  abbrev S : List Line
+  S = shaped (rowFor f) k (addressCount f k) (codeCount f k)
+
+  pub whole : commandLines f k ≡ just 8 (tagOf f) ∷ just 16 (contentBytes f k) ∷ S
+  unfolding commandLines contentLines
+  whole =
       let r = rowFor f in
-      let L = countLine (r .counting) k in
-      let M = times k (r .each) in
-      and-yes _ h1 ∙ and-yes _ h2
-      ∙ all-append g (r .before) (L ++ (M ++ r .after)) ∙ and-yes _ (e .before)
-      ∙ all-append g L (M ++ r .after) ∙ and-yes _ (all-count g (r .counting) k h3)
-      ∙ all-append g M (r .after) ∙ and-yes _ (all-times g k (r .each) (e .each)) ∙ e .after
+      let a = amountsOf f in
+      ap (λ (ts : List Line). just 8 (tagOf f) ∷ just 16 (contentBytes f k) ∷ (r .before ++ (countLine (r .counting) k ++ ts)))
+      (ap₂ (λ (row rest : List Line). times k row ++ rest) (each-is f) (after-is f)
+      ∙ rows-apart (a .addressEach) (a .codesEach) (a .codes) k octet code (eqb-true _ _ (at f 9 (omega arith))))
 
--- the bytes that the tables of 003 say
-pub command-size : (f : Kind) (k : ℕ) → size (contentLines (rowFor f) k) ≡ 8 * contentBytes f k
-unfolding size partAt
-command-size Clock k = content-size (rowFor Clock) k ∙ omega arith
-command-size Resource k = content-size (rowFor Resource) k ∙ omega arith
-command-size Lock k = content-size (rowFor Lock) k ∙ omega arith
-command-size Unknown k = content-size (rowFor Unknown) k ∙ omega arith
+  -- the bytes that the tables of 003 say
+  pub content-size : partAt (rowFor f) + 8 * addressCount f k + 96 * codeCount f k ≡ 8 * contentBytes f k
+  content-size =
+      let a = amountsOf f in
+      let e : partAt (rowFor f) + 96 * a .codes ≡ 8 * a .bytes = eqb-true _ _ (at f 10 (omega arith)) in
+      let g : a .addressEach + 12 * a .codesEach ≡ a .bytesEach = eqb-true _ _ (at f 11 (omega arith)) in
+      let h = ap (λ (n : ℕ). n * k) (sym g) ∙ add-mul (a .addressEach) (12 * a .codesEach) k ∙ ap (λ (n : ℕ). a .addressEach * k + n) (mul-assoc 12 (a .codesEach) k) in
+      omega (arith, e, h)
 
--- and the numbers: those of the first lines, the address, 23 a code
-pub command-need : (f : Kind) (k : ℕ) → need (contentLines (rowFor f) k) ≡ need (rowFor f .before) + (addressCount f k + 23 * codeCount f k)
-unfolding need
-command-need Clock k = content-need (rowFor Clock) k ∙ omega arith
-command-need Resource k = content-need (rowFor Resource) k ∙ omega arith
-command-need Lock k = content-need (rowFor Lock) k ∙ omega arith
-command-need Unknown k = content-need (rowFor Unknown) k ∙ omega arith
+  pub whole-size : size (commandLines f k) ≡ 8 * (3 + contentBytes f k)
+  unfolding size
+  whole-size = ap size whole ∙ omega (arith, shaped-size (rowFor f) k (addressCount f k) (codeCount f k), content-size)
 
-pub whole-size : (f : Kind) (k : ℕ) → size (commandLines f k) ≡ 8 * (3 + contentBytes f k)
-unfolding commandLines size
-whole-size f k = omega (arith, command-size f k)
+  -- and the numbers: those of the first lines, the address, 23 a code
+  pub whole-need : need (commandLines f k) ≡ need (rowFor f .before) + (addressCount f k + 23 * codeCount f k)
+  unfolding need
+  whole-need = ap need whole ∙ omega (arith, shaped-need (rowFor f) k (addressCount f k) (codeCount f k))
 
-pub whole-need : (f : Kind) (k : ℕ) → need (commandLines f k) ≡ need (rowFor f .before) + (addressCount f k + 23 * codeCount f k)
-unfolding commandLines need
-whole-need f k = omega (arith, command-need f k)
+  every : (g : Line → Bool) → g (just 8 (tagOf f)) ≡ true → g (just 16 (contentBytes f k)) ≡ true → g (just 8 k) ≡ true → all g (rowFor f .before) ≡ true → all g octet ≡ true → all g code ≡ true
+      → all g (commandLines f k) ≡ true
+  unfolding all
+  every g h1 h2 h3 hb ho hc = ap (all g) whole ∙ and-yes _ h1 ∙ and-yes _ h2 ∙ shaped-all (rowFor f) k (addressCount f k) (codeCount f k) g h3 hb ho hc
 
-pub few-bytes : (f : Kind) (k : ℕ) → k ≤ 255 → contentBytes f k < 65536
-few-bytes Clock k h = omega arith
-few-bytes Resource k h = omega arith
-few-bytes Lock k h = omega arith
-few-bytes Unknown k h = omega arith
+  pub few-bytes : k ≤ 255 → contentBytes f k < 65536
+  few-bytes h =
+      let e : amountsOf f .bytes + amountsOf f .bytesEach * 255 ≤ 3065 = leb-true _ _ (at f 12 (omega arith)) in
+      omega (arith, e, mul-le-mul-left (amountsOf f .bytesEach) h)
 
-pub all-tight : (f : Kind) (k : ℕ) → k ≤ 255 → all tight (commandLines f k) ≡ true
-all-tight f k h =
-    every tight f k (and-yes _ (at f 15 (omega arith))) (and-yes _ (lt-ltb _ _ (few-bytes f k h))) (and-yes _ (lt-ltb k 256 (omega arith)))
-    record { before = at f 0 (omega arith); each = at f 1 (omega arith); after = at f 2 (omega arith) }
+  -- how far address and codes go
+  pub places : k ≤ 255 → (codesAt f k ≤ 2200) × (codeCount f k ≤ 255) × (addressCount f k ≤ 255)
+  unfolding codesAt
+  places h =
+      let c : amountsOf f .codes + amountsOf f .codesEach * 255 ≤ 255 = leb-true _ _ (at f 13 (omega arith)) in
+      let a : amountsOf f .addressEach ≤ 1 = leb-true _ _ (at f 14 (omega arith)) in
+      let p : partAt (rowFor f) ≤ 56 = leb-true _ _ (at f 15 (omega arith)) in
+      let m = mul-le-mul-left (amountsOf f .addressEach) h in
+      (omega (arith, a, p, m), omega (arith, c, mul-le-mul-left (amountsOf f .codesEach) h), omega (arith, a, m))
 
-pub all-24 : (f : Kind) (k : ℕ) → all (given 24) (commandLines f k) ≡ true
-all-24 f k = every (given 24) f k refl refl refl record { before = at f 3 (omega arith); each = at f 4 (omega arith); after = at f 5 (omega arith) }
+  pub all-tight : k ≤ 255 → all tight (commandLines f k) ≡ true
+  unfolding all
+  all-tight h = every tight (and-yes _ (at f 8 (omega arith))) (and-yes _ (lt-ltb _ _ (few-bytes h))) (and-yes _ (lt-ltb k 256 (omega arith))) (at f 0 (omega arith)) refl refl
 
-pub all-26 : (f : Kind) (k : ℕ) → all (given 26) (commandLines f k) ≡ true
-all-26 f k =
-    every (given 26) f k (eq-eqb (tagOf f) (tagOf f) refl) (eq-eqb (contentBytes f k) (contentBytes f k) refl) (eq-eqb k k refl)
-    record { before = at f 6 (omega arith); each = at f 7 (omega arith); after = at f 8 (omega arith) }
+  pub all-24 : all (given 24) (commandLines f k) ≡ true
+  unfolding all
+  all-24 = every (given 24) refl refl refl (at f 1 (omega arith)) refl refl
 
-pub all-settled : (f : Kind) (k : ℕ) → all settled (commandLines f k) ≡ true
-all-settled f k =
-    every settled f k (and-yes _ (eq-eqb (tagOf f) (tagOf f) refl)) (and-yes _ (eq-eqb (contentBytes f k) (contentBytes f k) refl)) (and-yes _ (eq-eqb k k refl))
-    record { before = at f 9 (omega arith); each = at f 10 (omega arith); after = at f 11 (omega arith) }
+  pub all-26 : all (given 26) (commandLines f k) ≡ true
+  unfolding all
+  all-26 = every (given 26) (eq-eqb (tagOf f) (tagOf f) refl) (eq-eqb (contentBytes f k) (contentBytes f k) refl) (eq-eqb k k refl) (at f 2 (omega arith)) refl refl
 
-pub unmet-26 : (f : Kind) → Every (unmet 26) (rowFor f)
-unmet-26 f = record { before = at f 12 (omega arith); each = at f 13 (omega arith); after = at f 14 (omega arith) }
+  pub all-settled : all settled (commandLines f k) ≡ true
+  unfolding all
+  all-settled = every settled (and-yes _ (eq-eqb (tagOf f) (tagOf f) refl)) (and-yes _ (eq-eqb (contentBytes f k) (contentBytes f k) refl)) (and-yes _ (eq-eqb k k refl)) (at f 3 (omega arith)) refl refl
+
+pub first-26 : (f : Kind) → all (unmet 26) (rowFor f .before) ≡ true
+first-26 f = at f 6 (omega arith)

@@ -11,17 +11,17 @@ use borrow.Author.Tests.{lt-ltb, le-ltb, ltb-false}
 use Rattle.laws.specs.Bits.{bits, Under}
 use Rattle.laws.specs.Refusals.{first}
 use Rattle.laws.proofs.Refusals.{stop, pass, none-left, not-due}
-use Rattle.format.specs.Format.{times, encode, decode, inside, fine}
+use Rattle.format.specs.Format.{times, encode, decode, inside, fine, unmet}
+use Rattle.laws.specs.Scan.{all}
 use Rattle.format.proofs.Round.{under-encode}
 use Rattle.packet.specs.Table.{code}
-use Rattle.packet.specs.Content.{noSuchDay}
 use Rattle.packet.proofs.Refused.{not-written}
 use Rattle.writer.proofs.Rows.{encode-size}
 use Rattle.writer.proofs.Written.{bytes-put}
+use Rattle.sister.specs.declared.Kind.{Kind}
 use Rattle.sister.specs.declared.Command.{Command}
 use Rattle.sister.specs.declared.parts.Layout.{Layout}
-use Rattle.sister.specs.Table.{isUnknownKind, commandLines, partsOf, kindFor, countFor}
-use Rattle.sister.specs.Carrying.{contentFor}
+use Rattle.sister.specs.Table.{isUnknownKind, rowFor, commandLines, partsOf, kindFor, countFor, noDay}
 use Rattle.sister.specs.Reading as reading
 use Rattle.sister.specs.Reading.{kindIn, countOf, tableOf, valuesIn, commandIn, lengthBad, readCases, readAnswer, openedBy, refusedAs}
 use Rattle.sister.specs.Writing.{sizeFor, tableFor, numbersFor, valuesFor, bytesFor, countBad, digitBad, fieldBad, writeCases, writtenAnswer, written, commandOutput}
@@ -38,15 +38,15 @@ both true false = refl
 both false y = refl
 
 -- ---- reading
-pub judged : (a : ℕ) → eqb 0 a ≡ false → eqb 26 a ≡ false → eqb 27 a ≡ false → (b : List ℕ) (l : Layout) → l ≡ layoutOf (kindIn b) (countOf b)
+pub judged : (a : ℕ) → eqb 0 a ≡ false → eqb 26 a ≡ false → ((f : Kind) → all (unmet a) (rowFor f .before) ≡ true) → (b : List ℕ) (l : Layout) → l ≡ layoutOf (kindIn b) (countOf b)
     → fine a (times (l .codes) code) (decode (times (l .codes) code) (bits b) (l .place)) ≡ fine a (tableOf b) (valuesIn b)
 unfolding tableOf
-judged a e0 e26 e27 b l e = rw e (sym (found.codes-only a e0 e26 e27 (kindIn b) (countOf b) (bits b)))
+judged a e0 e26 h b l e = rw e (sym (found.codes-only a e0 e26 (kindIn b) (countOf b) (h (kindIn b)) (bits b)))
 
 module _ (b : List ℕ) where
   pub fields-are : fieldsFine (commandIn b) ≡ not (reading.fieldBad b)
   unfolding fieldsFine reading.fieldBad
-  fields-are = ap (λ (x : Bool). x && not (noSuchDay (contentFor (commandIn b)))) (sym (found.fine-27 b)) ∙ both (fine 27 (tableOf b) (valuesIn b)) (noSuchDay (contentFor (commandIn b)))
+  fields-are = ap (λ (x : Bool). x && not (noDay (commandIn b))) (sym (found.fine-27 b)) ∙ both (fine 27 (tableOf b) (valuesIn b)) (noDay (commandIn b))
 
   pub says-24 : fine 24 (tableOf b) (valuesIn b) ≡ false → 24 ≡ first (drop 3 (readCases b))
   says-24 e = sym (stop _ _ (ap not e))
@@ -106,7 +106,7 @@ module _ (c : Command) (address codes : List ℕ) (room : ℕ) where
 
     taken-are : fieldsFine c ≡ not (fieldBad c address codes)
     unfolding fieldsFine fieldBad
-    taken-are = ap (λ (x : Bool). x && not (noSuchDay (contentFor c))) (sym (put.fine-27 c address codes)) ∙ both (fine 27 (tableFor c) (valuesFor c address codes)) (noSuchDay (contentFor c))
+    taken-are = ap (λ (x : Bool). x && not (noDay c)) (sym (put.fine-27 c address codes (counted c address codes k))) ∙ both (fine 27 (tableFor c) (valuesFor c address codes)) (noDay c)
 
     bad-is : (x : Bool) → fieldsFine c ≡ not x → fieldBad c address codes ≡ x
     bad-is x e = turn (fieldBad c address codes) x (sym taken-are ∙ e)

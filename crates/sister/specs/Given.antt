@@ -4,24 +4,18 @@ use mathlib.Core.List.{List}
 use mathlib.Core.Bool.{Bool, true}
 use Prim.Native.Nat.{ℕ, _*_}
 use lib.ListN.{length, take}
-use lib.Dec.{leb}
 use Rattle.laws.specs.Bits.{Under}
-use Rattle.packet.specs.declared.Content.{Content}
+use Rattle.format.specs.Format.{fill, fine}
 use Rattle.packet.specs.Reading.{padded}
 use Rattle.sister.specs.declared.Command.{Command}
-use Rattle.sister.specs.declared.Command.the-variants as command
 use Rattle.sister.specs.declared.Opened.{Opened}
-use Rattle.sister.specs.Table.{kindFor, countFor, codeCount}
-use Rattle.sister.specs.Carrying.{contentFor, commandFor, digitsFor, codeFor}
+use Rattle.sister.specs.Table.{rowFor, codeCount, partsOf, kindFor, countFor}
 use Rattle.sister.specs.Reading.{opened, addressOf}
 use Rattle.sister.specs.Writing.{written, commandOutput}
 
--- the numbers of a command's untested lines, by their types: u16 and u32 (ours: the compiler gives it)
+-- the numbers of lines that no answer is about, a year and kHz, have the bits of their lines, as their types u16 and u32 have (ours: the compiler gives it)
 abbrev pub held : Command → Bool
-held (command.Clock year month day hour minute second) = leb year 65535
-held (command.Resource m) = true
-held (command.Lock khz n) = leb khz 4294967295
-held command.Unknown = true
+held c = fine 0 (rowFor (kindFor c) .before) (fill (rowFor (kindFor c) .before) (partsOf c .numbers))
 
 -- a command and an address of their types
 pub record Typed (c : Command) (address : List ℕ) : Type 0 where
@@ -40,14 +34,3 @@ pub record GivesBack (c : Command) (address codes b : List ℕ) : Type 0 where
 -- what is lent of the codes that were read: as many digits as there are
 abbrev pub lentCodes : Opened → List ℕ
 lentCodes o = take (23 * codeCount (kindFor (o .command)) (countFor (o .command))) (o .codes)
-
--- ---- carried over to our packets and back (02, K14)
--- a command with the digits of its codes is the same
-pub record CommandSame (c : Command) (codes : List ℕ) : Type 0 where
-  pub command-same : commandFor (contentFor c) ≡ c
-  pub codes-same : codeFor (contentFor c) (digitsFor c codes) ≡ codes
-
--- and so is a content with the digits beside it
-pub record ContentSame (c : Content) (digits : List ℕ) : Type 0 where
-  pub content-same : contentFor (commandFor c) ≡ c
-  pub digits-same : digitsFor (commandFor c) (codeFor c digits) ≡ digits

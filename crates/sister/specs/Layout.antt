@@ -1,25 +1,20 @@
 -- What the functions under reader and writer ask of each other and give (ours, between functions).
 use Prim.Native.Nat.{ℕ, _+_, _*_}
-use mathlib.Core.List.{List, [], _∷_, _++_}
+use mathlib.Core.List.{List, [], _++_}
 use mathlib.Core.Bool.{Bool, not, _&&_}
-use Rattle.laws.specs.Bits.{at, bits, bitsOf, spread}
+use Rattle.laws.specs.Bits.{at, bits, bitsOf}
 use Rattle.format.specs.Format.{times, encode, fill, fine}
-use Rattle.packet.specs.Table.{code}
-use Rattle.packet.specs.Content.{noSuchDay}
+use Rattle.packet.specs.Table.{code, countLine}
+use Rattle.packet.specs.Reading.{partAt}
 use Rattle.sister.specs.declared.Kind.{Kind}
-use Rattle.sister.specs.declared.Kind.the-variants as kind
 use Rattle.sister.specs.declared.Command.{Command}
-use Rattle.sister.specs.declared.Command.the-variants.{Clock, Resource, Lock, Unknown}
+use Rattle.sister.specs.declared.Command.the-variants.{Clock}
 use Rattle.sister.specs.declared.parts.Layout.{Layout}
-use Rattle.sister.specs.Table.{rowFor, contentBytes, addressCount, codeCount, partsOf, kindFor}
-use Rattle.sister.specs.Carrying.{contentFor}
+use Rattle.sister.specs.Table.{rowFor, contentBytes, addressCount, codeCount, partsOf, kindFor, countFor, noDay}
 
--- the bit at which the codes begin
-abbrev pub codesAt : Kind → ℕ → ℕ
-codesAt kind.Clock k = 80
-codesAt kind.Resource k = 32 + 8 * k
-codesAt kind.Lock k = 64
-codesAt kind.Unknown k = 24
+-- the bit at which the codes begin: behind tag, length, numbers, count and address
+unfoldable pub codesAt : Kind → ℕ → ℕ
+codesAt f k = 24 + partAt (rowFor f) + 8 * addressCount f k
 
 -- where the parts of a command stand
 abbrev pub layoutOf : Kind → ℕ → Layout
@@ -31,18 +26,17 @@ clockAt b = Clock (at (bits b) 24 16) (at (bits b) 40 8) (at (bits b) 48 8) (at 
 
 -- the command's own numbers are in their ranges, and its day is one that the month has
 unfoldable pub fieldsFine : Command → Bool
-fieldsFine c = fine 27 (rowFor (kindFor c) .before) (fill (rowFor (kindFor c) .before) (partsOf c .numbers)) && not (noSuchDay (contentFor c))
+fieldsFine c = fine 27 (rowFor (kindFor c) .before) (fill (rowFor (kindFor c) .before) (partsOf c .numbers)) && not (noDay c)
 
 -- ---- bits: tag and length; the command's own numbers and its count; codes
 abbrev pub headBits : ℕ → ℕ → List ℕ
 headBits tag bytes = bitsOf 8 tag ++ bitsOf 16 bytes
 
--- by the tables 9 to 11 of 003
-abbrev pub numberBits : Command → List ℕ
-numberBits (Clock year month day hour minute second) = bitsOf 16 year ++ spread 8 (month ∷ day ∷ hour ∷ minute ∷ second ∷ [])
-numberBits (Resource m) = bitsOf 8 m
-numberBits (Lock khz n) = bitsOf 32 khz ++ bitsOf 8 n
-numberBits Unknown = []
+-- by the row
+unfoldable pub numberBits : Command → List ℕ
+numberBits c =
+    encode (rowFor (kindFor c) .before) (fill (rowFor (kindFor c) .before) (partsOf c .numbers))
+    ++ encode (countLine (rowFor (kindFor c) .counting) (countFor c)) (fill (countLine (rowFor (kindFor c) .counting) (countFor c)) [])
 
 -- n codes with these digits
 unfoldable pub codeBits : ℕ → List ℕ → List ℕ

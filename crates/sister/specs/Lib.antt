@@ -1,5 +1,4 @@
 pub mod Table
-pub mod Carrying
 pub mod Reading
 pub mod Writing
 pub mod Given

@@ -9,14 +9,12 @@ use Rattle.laws.specs.Refusals.{Case, first}
 use Rattle.format.specs.declared.Line.{Line}
 use Rattle.format.specs.Format.{need, decode, flat, fine}
 use Rattle.packet.specs.Table.{countIn}
-use Rattle.packet.specs.Content.{noSuchDay}
 use Rattle.packet.specs.Reading.{zeros, padded, partBy}
 use Rattle.sister.specs.declared.Kind.{Kind}
 use Rattle.sister.specs.declared.Command.{Command}
 use Rattle.sister.specs.declared.Command.the-variants as command
 use Rattle.sister.specs.declared.Opened.{Opened}
-use Rattle.sister.specs.Table.{kindOf, isUnknownKind, rowFor, contentBytes, commandLines, addressCount, commandOf}
-use Rattle.sister.specs.Carrying.{contentFor}
+use Rattle.sister.specs.Table.{kindOf, isUnknownKind, rowFor, contentBytes, commandLines, addressCount, commandOf, noDay}
 
 -- ---- tag and length (003, table 8)
 abbrev pub tagIn : List ℕ → ℕ
@@ -61,7 +59,7 @@ lengthBad b = not (eqb (length b) (3 + lengthIn b) && eqb (lengthIn b) (contentB
 
 -- 27: a field outside its range, or no such day
 unfoldable pub fieldBad : List ℕ → Bool
-fieldBad b = not (fine 27 (tableOf b) (valuesIn b)) || noSuchDay (contentFor (commandIn b))
+fieldBad b = not (fine 27 (tableOf b) (valuesIn b)) || noDay (commandIn b)
 
 -- in this order
 abbrev pub readCases : List ℕ → List Case

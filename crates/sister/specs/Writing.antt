@@ -9,11 +9,9 @@ use Rattle.laws.specs.Refusals.{Case, first}
 use Rattle.format.specs.declared.Line.{Line}
 use Rattle.format.specs.Format.{encode, fill, fine}
 use Rattle.packet.specs.declared.Written.{Written}
-use Rattle.packet.specs.Content.{noSuchDay}
 use Rattle.packet.specs.Writing.{writtenBy, outputBy}
 use Rattle.sister.specs.declared.Command.{Command}
-use Rattle.sister.specs.Table.{isUnknownKind, contentBytes, commandLines, addressCount, codeCount, partsOf, kindFor, countFor}
-use Rattle.sister.specs.Carrying.{contentFor}
+use Rattle.sister.specs.Table.{isUnknownKind, contentBytes, commandLines, addressCount, codeCount, partsOf, kindFor, countFor, noDay}
 
 -- ---- the command's size, table, numbers and bytes (003, table 8)
 abbrev pub sizeFor : Command → ℕ
@@ -48,7 +46,7 @@ digitBad c address codes = not (fine 25 (tableFor c) (valuesFor c address codes)
 
 -- 27: a field outside its range, or no such day
 unfoldable pub fieldBad : Command → List ℕ → List ℕ → Bool
-fieldBad c address codes = not (fine 27 (tableFor c) (valuesFor c address codes)) || noSuchDay (contentFor c)
+fieldBad c address codes = not (fine 27 (tableFor c) (valuesFor c address codes)) || noDay c
 
 -- in this order; 39 for what is no command
 abbrev pub writeCases : Command → List ℕ → List ℕ → ℕ → List Case

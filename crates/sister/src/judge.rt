@@ -1,33 +1,22 @@
 // What is wrong with a command's bytes, or with what is to be written.
 ghost use mathlib.Core.Path.{_≡_};
-ghost use mathlib.Core.Bool.{false, _&&_};
+ghost use mathlib.Core.Bool.{false};
 ghost use Prim.Native.Nat.{_<_, _≤_};
 ghost use lib.ListN.{drop};
-ghost use lib.Dec.{leb};
 ghost use Rattle.laws.specs.Bits.{bits};
 ghost use Rattle.laws.specs.Refusals.{first};
 ghost use Rattle.format.specs.Format.{times, decode, fine, inside};
 ghost use Rattle.packet.specs.Table.{code};
 ghost use Rattle.sister.specs.Reading.{lengthBad, readCases, readAnswer};
 ghost use Rattle.sister.specs.Writing.{countBad, writeCases, writtenAnswer};
-ghost use Rattle.sister.specs.Table.{isUnknownKind};
 ghost use Rattle.sister.specs.Layout.{fieldsFine};
 use crate::Command;
 use crate::Kind;
 use crate::parts;
+use crate::puts;
+use packet::Content;
 
 // ---- reading
-
-fn is_unknown(f: Kind) -> bool
-    ensures { λ r. ⌜ r ≡ isUnknownKind f ⌝ }
-{
-    match f {
-        Kind::Clock => false,
-        Kind::Resource => false,
-        Kind::Lock => false,
-        Kind::Unknown => true,
-    }
-}
 
 // The length field is not that of what follows, or not that of the command.
 fn length_bad(b: &[u8]) -> bool
@@ -72,42 +61,35 @@ fn codes_fine(answer: u8, b: &[u8], p: usize, n: usize) -> bool
     true
 }
 
-fn within(x: u8, lo: u8, hi: u8) -> bool
-    ensures { λ r. ⌜ r ≡ (leb lo x && leb x hi) ⌝ }
-{
-    if lo <= x { x <= hi } else { false }
-}
-
 // The fields of a command are in their ranges, and its day is one that the month has.
 fn fields_fine(c: Command) -> bool
     ensures { λ r. ⌜ r ≡ fieldsFine c ⌝ }
 {
-    let no_day = packet::no_such_day(crate::content_of(c));
     match c {
         Command::Clock {
-            year: _,
+            year,
             month,
             day,
             hour,
             minute,
             second,
         } => {
-            if !within(month, 1, 12) {
-                return false;
-            }
-            if !within(day, 1, 31) {
-                return false;
-            }
-            if !within(hour, 0, 23) {
-                return false;
-            }
-            if !within(minute, 0, 59) {
-                return false;
-            }
-            if !within(second, 0, 59) {
-                return false;
-            }
-            !no_day
+            let no_day = packet::no_such_day(Content::Clock {
+                year: year,
+                month: month,
+                day: day,
+                hour: hour,
+                minute: minute,
+                second: second,
+            });
+            (1 <= month)
+                & (month <= 12)
+                & (1 <= day)
+                & (day <= 31)
+                & (hour <= 23)
+                & (minute <= 59)
+                & (second <= 59)
+                & !no_day
         }
         Command::Resource { length: _ } => true,
         Command::Lock { khz: _, count: _ } => true,
@@ -139,7 +121,7 @@ pub(crate) fn answer(b: &[u8]) -> u8
     if b.len() < 3 {
         return 26;
     }
-    if is_unknown(parts::kind(b)) {
+    if parts::tag_of(parts::kind(b)) == 0 {
         return 39;
     }
     if length_bad(b) {
@@ -168,11 +150,10 @@ fn digits_fine(xs: &[u8]) -> bool
 fn count_bad(c: Command, address: &[u8], codes: &[u8]) -> bool
     ensures { λ r. ⌜ r ≡ countBad c (now (address .entry)) (now (codes .entry)) ⌝ }
 {
-    let k = crate::puts::count_for(c);
-    if k > 255 {
+    if puts::count_for(c) > 255 {
         return true;
     }
-    let l = parts::laid(crate::puts::kind_for(c), k);
+    let l = puts::laid_for(c);
     if address.len() != l.address {
         return true;
     }
@@ -190,7 +171,7 @@ fn rest_answer(c: Command, address: &[u8], codes: &[u8], room: usize) -> u8
     if !fields_fine(c) {
         return 27;
     }
-    let l = parts::laid(crate::puts::kind_for(c), crate::puts::count_for(c));
+    let l = puts::laid_for(c);
     if room < 3 + l.bytes {
         return 10;
     }
@@ -201,7 +182,7 @@ fn rest_answer(c: Command, address: &[u8], codes: &[u8], room: usize) -> u8
 pub(crate) fn written_answer(c: Command, address: &[u8], codes: &[u8], room: usize) -> u8
     ensures { λ r. ⌜ r ≡ writtenAnswer c (now (address .entry)) (now (codes .entry)) room ⌝ }
 {
-    if is_unknown(crate::puts::kind_for(c)) {
+    if parts::tag_of(puts::kind_for(c)) == 0 {
         return 39;
     }
     if count_bad(c, address, codes) {

@@ -1,5 +1,4 @@
 // The configuration commands of the digital sister band, GY/T 403-2024, clause 9.2: clock, resource code, lock frequency.
-mod carry;
 mod judge;
 mod parts;
 mod puts;
@@ -8,8 +7,6 @@ ghost use mathlib.Core.Path.{_≡_};
 ghost use lib.ListN.{length};
 ghost use Rattle.sister.specs.Reading.{opened, addressOf};
 ghost use Rattle.sister.specs.Writing.{written, commandOutput};
-ghost use Rattle.sister.specs.Carrying.{contentFor, commandFor, digitsFor, codeFor};
-use packet::Content;
 use packet::Written;
 
 // What a tag names.
@@ -100,80 +97,4 @@ pub fn write(command: Command, address: &[u8], codes: &[u8], out: &mut [u8]) -> 
         answer: 0,
         length: size,
     }
-}
-
-// The content of our packets that a clock or a resource command is; raw for any other.
-pub fn content_of(command: Command) -> Content
-    ensures { λ r. ⌜ r ≡ contentFor command ⌝ }
-{
-    match command {
-        Command::Clock {
-            year,
-            month,
-            day,
-            hour,
-            minute,
-            second,
-        } => Content::Clock {
-            year: year,
-            month: month,
-            day: day,
-            hour: hour,
-            minute: minute,
-            second: second,
-        },
-        Command::Resource { length } => Content::Address { length: length },
-        Command::Lock { khz: _, count: _ } => Content::Raw,
-        Command::Unknown => Content::Raw,
-    }
-}
-
-// The command that a content of type 1 or 3 is; Unknown for any other.
-pub fn command_of(content: Content) -> Command
-    ensures { λ r. ⌜ r ≡ commandFor content ⌝ }
-{
-    match content {
-        Content::Raw => Command::Unknown,
-        Content::Frequencies { count: _ } => Command::Unknown,
-        Content::Address { length } => Command::Resource { length: length },
-        Content::Keep { on: _, period: _ } => Command::Unknown,
-        Content::Clock {
-            year,
-            month,
-            day,
-            hour,
-            minute,
-            second,
-        } => Command::Clock {
-            year: year,
-            month: month,
-            day: day,
-            hour: hour,
-            minute: minute,
-            second: second,
-        },
-        Content::Reset { change: _ } => Command::Unknown,
-        Content::Factory => Command::Unknown,
-        Content::Drill { action: _ } => Command::Unknown,
-        Content::Text {
-            kind: _,
-            set: _,
-            length: _,
-        } => Command::Unknown,
-        Content::Hold { serial: _ } => Command::Unknown,
-    }
-}
-
-// The digits beside the content of a command, of those of its codes.
-pub fn digits_of(command: Command, codes: &[u8]) -> [u8; 35]
-    ensures { λ r. ⌜ r ≡ digitsFor command (now (codes .entry)) ⌝ }
-{
-    carry::padded(format::part(codes, 0, carry::code_digits(command)))
-}
-
-// The digits of the code of a content's command, of those beside the content.
-pub fn code_of(content: Content, digits: &[u8]) -> &[u8]
-    ensures { λ r. ⌜ now r ≡ codeFor content (now (digits .entry)) ⌝ }
-{
-    format::part(digits, 0, carry::code_digits(command_of(content)))
 }

@@ -1,8 +1,9 @@
 // The parts of a command: its kind and count, where its codes stand, and what is read of it.
 ghost use mathlib.Core.Path.{_≡_};
-ghost use Prim.Native.Nat.{_<_, _≤_};
+ghost use Prim.Native.Nat.{_*_, _<_, _≤_};
 ghost use Rattle.laws.specs.Bits.{at, bits};
 ghost use Rattle.packet.specs.Reading.{zeros, padded};
+ghost use Rattle.sister.specs.Table.{tagOf};
 ghost use Rattle.sister.specs.Reading.{kindIn, countOf, commandIn, codesIn};
 ghost use Rattle.sister.specs.Layout.{layoutOf, clockAt};
 use crate::Command;
@@ -16,12 +17,11 @@ pub(crate) struct Layout {
     pub(crate) codes: usize,
 }
 
-// A number of at most a byte, of two bytes.
-pub(crate) fn small(b: &[u8], p: usize) -> u8
-    requires { ⌜ p < 65536 ⌝ }
-    ensures { λ r. ⌜ r ≡ at (bits (now (b .entry))) p 8 ⌝ }
+// A byte as the number of its bits, and the number of two bytes.
+fn octet(b: &[u8], i: usize) -> u8
+    ensures { λ r. ⌜ r ≡ at (bits (now (b .entry))) (8 * i) 8 ⌝ }
 {
-    format::field(b, p, 8) as u8
+    octets::byte(b, i)
 }
 
 pub(crate) fn medium(b: &[u8], p: usize) -> u16
@@ -40,11 +40,22 @@ pub(crate) fn zeros5865() -> [u8; 5865]
 pub(crate) fn kind(b: &[u8]) -> Kind
     ensures { λ r. ⌜ r ≡ kindIn (now (b .entry)) ⌝ }
 {
-    match small(b, 0) {
+    match octet(b, 0) {
         1 => Kind::Clock,
         2 => Kind::Resource,
         3 => Kind::Lock,
         _ => Kind::Unknown,
+    }
+}
+
+pub(crate) fn tag_of(f: Kind) -> u8
+    ensures { λ r. ⌜ r ≡ tagOf f ⌝ }
+{
+    match f {
+        Kind::Clock => 1,
+        Kind::Resource => 2,
+        Kind::Lock => 3,
+        Kind::Unknown => 0,
     }
 }
 
@@ -55,8 +66,8 @@ pub(crate) fn count(b: &[u8]) -> usize
     let f = kind(b);
     match f {
         Kind::Clock => 0,
-        Kind::Resource => small(b, 24) as usize,
-        Kind::Lock => small(b, 56) as usize,
+        Kind::Resource => octet(b, 3) as usize,
+        Kind::Lock => octet(b, 7) as usize,
         Kind::Unknown => 0,
     }
 }
@@ -119,11 +130,11 @@ fn clock(b: &[u8]) -> Command
     ensures { λ r. ⌜ r ≡ clockAt (now (b .entry)) ⌝ }
 {
     let year = medium(b, 24);
-    let month = small(b, 40);
-    let day = small(b, 48);
-    let hour = small(b, 56);
-    let minute = small(b, 64);
-    let second = small(b, 72);
+    let month = octet(b, 5);
+    let day = octet(b, 6);
+    let hour = octet(b, 7);
+    let minute = octet(b, 8);
+    let second = octet(b, 9);
     Command::Clock {
         year: year,
         month: month,

@@ -6,12 +6,13 @@ ghost use lib.ListN.{length};
 ghost use lib.Seq.{sets};
 ghost use Rattle.laws.specs.Bits.{bits};
 ghost use Rattle.format.specs.Format.{encode};
-ghost use Rattle.sister.specs.Table.{tagOf, kindFor, countFor};
+ghost use Rattle.sister.specs.Table.{kindFor, countFor};
 ghost use Rattle.sister.specs.Writing.{tableFor, valuesFor, sizeFor, countBad};
-ghost use Rattle.sister.specs.Layout.{headBits, numberBits, codeBits};
+ghost use Rattle.sister.specs.Layout.{layoutOf, headBits, numberBits, codeBits};
 use crate::Command;
 use crate::Kind;
 use crate::parts;
+use crate::parts::Layout;
 
 pub(crate) fn kind_for(c: Command) -> Kind
     ensures { λ r. ⌜ r ≡ kindFor c ⌝ }
@@ -49,15 +50,12 @@ pub(crate) fn count_for(c: Command) -> usize
     }
 }
 
-fn tag_of(f: Kind) -> u8
-    ensures { λ r. ⌜ r ≡ tagOf f ⌝ }
+// Where the parts of a command stand.
+pub(crate) fn laid_for(c: Command) -> Layout
+    requires { ⌜ countFor c ≤ 255 ⌝ }
+    ensures { λ r. ⌜ r ≡ layoutOf (kindFor c) (countFor c) ⌝ }
 {
-    match f {
-        Kind::Clock => 1,
-        Kind::Resource => 2,
-        Kind::Lock => 3,
-        Kind::Unknown => 0,
-    }
+    parts::laid(kind_for(c), count_for(c))
 }
 
 // Tag and length.
@@ -120,9 +118,8 @@ pub(crate) fn put_command(c: Command, address: &[u8], codes: &[u8], out: &mut [u
     ensures size { λ r. ⌜ r ≡ sizeFor c ⌝ }
     ensures bits { λ _. ⌜ bits (now (out .exit)) ≡ sets (bits (now (out .entry))) 0 (encode (tableFor c) (valuesFor c (now (address .entry)) (now (codes .entry)))) ⌝ }
 {
-    let f = kind_for(c);
-    let l = parts::laid(f, count_for(c));
-    put_head(out, tag_of(f), l.bytes);
+    let l = laid_for(c);
+    put_head(out, parts::tag_of(kind_for(c)), l.bytes);
     put_numbers(out, c);
     format::put_fields(out, l.place - 8 * l.address, 8, address);
     put_codes(out, l.place, l.codes, codes);

@@ -1,5 +1,5 @@
 -- `sister::judge::count_bad` meets its contract. Assumes nothing.
-use mathlib.Core.Path.{_≡_, sym, ap, ap₂, _∙_}
+use mathlib.Core.Path.{sym, ap, _∙_}
 use mathlib.Core.Bool.{not}
 use Prim.Native.Nat.{_*_}
 use denote.Ref.{now}
@@ -10,9 +10,8 @@ use borrow.Author.Tests.{eq-eqb, ne-eqb, le-leb, lt-leb}
 use Rattle.laws.proofs.Cases.{and-yes, and-no}
 use Rattle.sister.specs.Table.{kindFor, countFor, addressCount}
 use Rattle.sister.specs.declared.parts.Layout.{Layout}
-use Rattle.sister.specs.Layout.{layoutOf}
 use Rattle.sister.specs.Writing.{countBad}
-use Rattle.sister.proofs.Found.{places}
+use Rattle.sister.proofs.Put.{reaches}
 use borrow.Author.Needs.{needs}
 use Rattle.sister.proofs.judge.count_bad.Statement.{statement}
 use Rattle.sister.proofs.judge.count_bad.Tie as tie
@@ -26,41 +25,29 @@ returns c =
     let x = c .before .before .before .before .args in
     sym (ap not (and-no _ (lt-leb (countFor (x .c)) 255 (omega (arith, c .before .count-for .ensures)))))
 
-kind-for-requires : tie.Need-kind-for-requires
-kind-for-requires c κs = search needs
-
-laid-requires : tie.Need-laid-requires
-laid-requires c κs = search needs
+laid-for-requires : tie.Need-laid-for-requires
+laid-for-requires c κs = search needs
 
 returns-2 : tie.Need-returns-2
 unfolding countBad
 returns-2 c =
-    let x = c .before .before .before .before .before .before .before .before .args in
-    let l : c .before .before .laid .result ≡ layoutOf (kindFor (x .c)) (countFor (x .c)) = c .before .before .laid .ensures ∙ ap₂ layoutOf (c .before .before .before .kind-for .ensures) (c .before .before .before .before .before .count-for .ensures) in
-    sym (ap not (and-yes _ (le-leb (countFor (x .c)) 255 (omega (arith, c .before .before .before .before .before .count-for .ensures))) ∙ and-no _ (ne-eqb (length (now (x .address))) (addressCount (kindFor (x .c)) (countFor (x .c))) (λ h. c .if2 .taken (h ∙ sym (ap (λ (y : Layout). y .address) l))))))
+    let x = c .before .before .before .before .before .before .before .args in
+    sym (ap not (and-yes _ (le-leb (countFor (x .c)) 255 (omega (arith, c .before .before .before .before .count-for .ensures))) ∙ and-no _ (ne-eqb (length (now (x .address))) (addressCount (kindFor (x .c)) (countFor (x .c))) (λ h. c .if2 .taken (h ∙ sym (ap (λ (y : Layout). y .address) (c .before .before .laid-for .ensures)))))))
 
 mul-result : tie.Need-mul-result
 mul-result c =
-    let x = c .before .before .before .before .before .before .before .before .before .args in
-    let l : c .before .before .before .laid .result ≡ layoutOf (kindFor (x .c)) (countFor (x .c)) = c .before .before .before .laid .ensures ∙ ap₂ layoutOf (c .before .before .before .before .kind-for .ensures) (c .before .before .before .before .before .before .count-for .ensures) in
-    omega (arith, ap (λ (y : Layout). y .codes) l, places (kindFor (x .c)) (countFor (x .c)) (omega (arith, c .before .before .before .before .before .before .count-for .ensures)) .1)
+    let x = c .before .before .before .before .before .before .before .before .args in
+    omega (arith, reaches (x .c) (c .before .before .before .laid-for .result) (c .before .before .before .laid-for .ensures) (omega (arith, c .before .before .before .before .before .count-for .ensures)) .3)
 
 returns-3 : tie.Need-returns-3
 unfolding countBad
 returns-3 c =
-    let x = c .before .before .before .before .before .before .before .before .before .args in
-    let l : c .before .before .before .laid .result ≡ layoutOf (kindFor (x .c)) (countFor (x .c)) = c .before .before .before .laid .ensures ∙ ap₂ layoutOf (c .before .before .before .before .kind-for .ensures) (c .before .before .before .before .before .before .count-for .ensures) in
+    let x = c .before .before .before .before .before .before .before .before .args in
+    let l = c .before .before .before .laid-for .ensures in
     ap (λ (y : Layout). not (eqb (length (now (x .codes))) (23 * y .codes))) l
-    ∙ sym (ap not (and-yes _ (le-leb (countFor (x .c)) 255 (omega (arith, c .before .before .before .before .before .before .count-for .ensures))) ∙ and-yes _ (eq-eqb (length (now (x .address))) (addressCount (kindFor (x .c)) (countFor (x .c))) (c .before .if2 .left ∙ ap (λ (y : Layout). y .address) l))))
+    ∙ sym (ap not (and-yes _ (le-leb (countFor (x .c)) 255 (omega (arith, c .before .before .before .before .before .count-for .ensures))) ∙ and-yes _ (eq-eqb (length (now (x .address))) (addressCount (kindFor (x .c)) (countFor (x .c))) (c .before .if2 .left ∙ ap (λ (y : Layout). y .address) l))))
 
 pub count-bad-spec : {M : Type 1} → statement M
 count-bad-spec =
     tie.close
-    (tie.spec
-    count-for-requires
-    returns
-    kind-for-requires
-    laid-requires
-    returns-2
-    mul-result
-    returns-3)
+    (tie.spec count-for-requires returns laid-for-requires returns-2 mul-result returns-3)

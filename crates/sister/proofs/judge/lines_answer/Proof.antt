@@ -7,6 +7,7 @@ use Rattle.sister.specs.declared.parts.Layout.{Layout}
 use Rattle.sister.specs.Reading as reading
 use Rattle.sister.specs.Layout.{fieldsFine}
 use Rattle.sister.proofs.Found.{places-in}
+use Rattle.sister.proofs.Rows.{first-24, first-25}
 use Rattle.sister.proofs.Says as says
 use borrow.Author.Needs.{needs}
 use Rattle.sister.proofs.judge.lines_answer.Statement.{statement}
@@ -21,7 +22,7 @@ codes-fine-requires c κs = let z = places-in (now (c .before .before .args .b))
 returns : tie.Need-returns
 returns c =
     let b = now (c .before .before .before .before .args .b) in
-    says.says-24 b (sym (says.judged 24 refl refl refl b (c .before .before .laid-in .result) (c .before .before .laid-in .ensures)) ∙ sym (c .before .codes-fine .ensures) ∙ not-true (c .before .codes-fine .result) (c .if1 .taken))
+    says.says-24 b (sym (says.judged 24 refl refl first-24 b (c .before .before .laid-in .result) (c .before .before .laid-in .ensures)) ∙ sym (c .before .codes-fine .ensures) ∙ not-true (c .before .codes-fine .result) (c .if1 .taken))
 
 codes-fine-requires-2 : tie.Need-codes-fine-requires-2
 codes-fine-requires-2 c κs = let z = places-in (now (c .before .before .before .before .args .b)) in let e = c .before .before .laid-in .ensures in (omega (arith, z .0, ap (λ (y : Layout). y .place) e), omega (arith, z .1, ap (λ (y : Layout). y .codes) e))
@@ -30,8 +31,8 @@ returns-2 : tie.Need-returns-2
 returns-2 c =
     let b = now (c .before .before .before .before .before .before .args .b) in
     let l = c .before .before .before .before .laid-in in
-    says.says-25 b (sym (says.judged 24 refl refl refl b (l .result) (l .ensures)) ∙ sym (c .before .before .before .codes-fine .ensures) ∙ not-false (c .before .before .before .codes-fine .result) (c .before .before .if1 .left))
-    (sym (says.judged 25 refl refl refl b (l .result) (l .ensures)) ∙ sym (c .before .codes-fine2 .ensures) ∙ not-true (c .before .codes-fine2 .result) (c .if2 .taken))
+    says.says-25 b (sym (says.judged 24 refl refl first-24 b (l .result) (l .ensures)) ∙ sym (c .before .before .before .codes-fine .ensures) ∙ not-false (c .before .before .before .codes-fine .result) (c .before .before .if1 .left))
+    (sym (says.judged 25 refl refl first-25 b (l .result) (l .ensures)) ∙ sym (c .before .codes-fine2 .ensures) ∙ not-true (c .before .codes-fine2 .result) (c .if2 .taken))
 
 command-requires : tie.Need-command-requires
 command-requires c κs = search needs
@@ -43,16 +44,16 @@ returns-3 : tie.Need-returns-3
 returns-3 c =
     let b = now (c .before .before .before .before .before .before .before .before .before .args .b) in
     let l = c .before .before .before .before .before .before .before .laid-in in
-    says.says-27 b (sym (says.judged 24 refl refl refl b (l .result) (l .ensures)) ∙ sym (c .before .before .before .before .before .before .codes-fine .ensures) ∙ not-false (c .before .before .before .before .before .before .codes-fine .result) (c .before .before .before .before .before .if1 .left))
-    (sym (says.judged 25 refl refl refl b (l .result) (l .ensures)) ∙ sym (c .before .before .before .before .codes-fine2 .ensures) ∙ not-false (c .before .before .before .before .codes-fine2 .result) (c .before .before .before .if2 .left))
+    says.says-27 b (sym (says.judged 24 refl refl first-24 b (l .result) (l .ensures)) ∙ sym (c .before .before .before .before .before .before .codes-fine .ensures) ∙ not-false (c .before .before .before .before .before .before .codes-fine .result) (c .before .before .before .before .before .if1 .left))
+    (sym (says.judged 25 refl refl first-25 b (l .result) (l .ensures)) ∙ sym (c .before .before .before .before .codes-fine2 .ensures) ∙ not-false (c .before .before .before .before .codes-fine2 .result) (c .before .before .before .if2 .left))
     (not-false (reading.fieldBad b) (sym (says.fields-are b) ∙ sym (c .before .fields-fine .ensures ∙ ap fieldsFine (c .before .before .command .ensures)) ∙ not-true (c .before .fields-fine .result) (c .if3 .taken)))
 
 returns-4 : tie.Need-returns-4
 returns-4 c =
     let b = now (c .before .before .before .before .before .before .before .before .before .args .b) in
     let l = c .before .before .before .before .before .before .before .laid-in in
-    says.says-0 b (sym (says.judged 24 refl refl refl b (l .result) (l .ensures)) ∙ sym (c .before .before .before .before .before .before .codes-fine .ensures) ∙ not-false (c .before .before .before .before .before .before .codes-fine .result) (c .before .before .before .before .before .if1 .left))
-    (sym (says.judged 25 refl refl refl b (l .result) (l .ensures)) ∙ sym (c .before .before .before .before .codes-fine2 .ensures) ∙ not-false (c .before .before .before .before .codes-fine2 .result) (c .before .before .before .if2 .left))
+    says.says-0 b (sym (says.judged 24 refl refl first-24 b (l .result) (l .ensures)) ∙ sym (c .before .before .before .before .before .before .codes-fine .ensures) ∙ not-false (c .before .before .before .before .before .before .codes-fine .result) (c .before .before .before .before .before .if1 .left))
+    (sym (says.judged 25 refl refl first-25 b (l .result) (l .ensures)) ∙ sym (c .before .before .before .before .codes-fine2 .ensures) ∙ not-false (c .before .before .before .before .codes-fine2 .result) (c .before .before .before .if2 .left))
     (not-true (reading.fieldBad b) (sym (says.fields-are b) ∙ sym (c .before .fields-fine .ensures ∙ ap fieldsFine (c .before .before .command .ensures)) ∙ not-false (c .before .fields-fine .result) (c .if3 .left)))
 
 pub lines-answer-spec : {M : Type 1} → statement M

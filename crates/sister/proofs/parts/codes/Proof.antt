@@ -18,7 +18,7 @@ use Rattle.sister.proofs.parts.codes.Statement.{statement}
 use Rattle.sister.proofs.parts.codes.Tie as tie
 
 abbrev Inv-loop : tie.InvT-loop
-Inv-loop b n out₀ p₀ i₀ j₀ out p i j = (p ≡ p₀ + 96 * j) × (i ≡ 23 * j) × (j ≤ n) × (length out ≡ 5865) × (sets out₀ 0 (numbersAt (times n code) b p₀) ≡ sets out i (numbersAt (times (n - j) code) b p)) × (n ≤ 255) × (p₀ ≤ 2100)
+Inv-loop b n out₀ p₀ i₀ j₀ out p i j = (p ≡ p₀ + 96 * j) × (i ≡ 23 * j) × (j ≤ n) × (length out ≡ 5865) × (sets out₀ 0 (numbersAt (times n code) b p₀) ≡ sets out i (numbersAt (times (n - j) code) b p)) × (n ≤ 255) × (p₀ ≤ 2200)
 
 abbrev μ-loop : tie.MeasureT-loop
 μ-loop b n out₀ p₀ i₀ j₀ out p i j = n - j

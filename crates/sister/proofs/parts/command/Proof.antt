@@ -7,6 +7,8 @@ use native.Mathlib.Omega.{arith}
 use Rattle.laws.proofs.Cases.{if-yes}
 use Rattle.format.proofs.Leaves.{reached}
 use Rattle.sister.specs.declared.Command.the-variants as command
+use Rattle.sister.specs.declared.Kind.the-variants.{Clock, Resource, Lock, Unknown}
+use Rattle.sister.specs.Reading.{countOf}
 use Rattle.sister.proofs.Found as found
 use borrow.Author.Needs.{needs}
 use Rattle.sister.proofs.parts.command.Statement.{statement}
@@ -40,16 +42,16 @@ enum-told-4 : tie.Need-enum-told-4
 enum-told-4 c = search needs
 
 returns : tie.Need-returns
-returns c = c .clock .ensures ∙ found.clock-is (now (c .before .before .before .before .before .args .b)) (sym (c .before .before .before .kind .ensures) ∙ c .before .enum-told .given .1)
+returns c = let b = now (c .before .before .before .before .before .args .b) in c .clock .ensures ∙ found.clock-numbers b (countOf b) ∙ found.command-is b Clock (sym (c .before .before .before .kind .ensures) ∙ c .before .enum-told .given .1)
 
 returns-2 : tie.Need-returns-2
-returns-2 c = ap (λ (n : ℕ). command.Resource n) (c .count .ensures .0) ∙ found.resource-is (now (c .before .before .before .before .before .args .b)) (sym (c .before .before .before .kind .ensures) ∙ c .before .enum-told2 .given .1)
+returns-2 c = ap (λ (n : ℕ). command.Resource n) (c .count .ensures .0) ∙ found.command-is (now (c .before .before .before .before .before .args .b)) Resource (sym (c .before .before .before .kind .ensures) ∙ c .before .enum-told2 .given .1)
 
 returns-3 : tie.Need-returns-3
-returns-3 c = ap₂ (λ (k n : ℕ). command.Lock k n) (c .before .field .ensures ∙ if-yes (at (bits (now (c .before .before .before .before .before .before .args .b))) 24 32) 0 (reached 24 1 32 (omega arith) (omega arith) (omega arith))) (c .count2 .ensures .0) ∙ found.lock-is (now (c .before .before .before .before .before .before .args .b)) (sym (c .before .before .before .before .kind .ensures) ∙ c .before .before .enum-told3 .given .1)
+returns-3 c = ap₂ (λ (k n : ℕ). command.Lock k n) (c .before .field .ensures ∙ if-yes (at (bits (now (c .before .before .before .before .before .before .args .b))) 24 32) 0 (reached 24 1 32 (omega arith) (omega arith) (omega arith))) (c .count2 .ensures .0) ∙ found.lock-numbers (now (c .before .before .before .before .before .before .args .b)) (countOf (now (c .before .before .before .before .before .before .args .b))) ∙ found.command-is (now (c .before .before .before .before .before .before .args .b)) Lock (sym (c .before .before .before .before .kind .ensures) ∙ c .before .before .enum-told3 .given .1)
 
 returns-4 : tie.Need-returns-4
-returns-4 c = found.none-is (now (c .before .before .before .before .args .b)) (sym (c .before .before .kind .ensures) ∙ c .enum-told4 .given .1)
+returns-4 c = found.command-is (now (c .before .before .before .before .args .b)) Unknown (sym (c .before .before .kind .ensures) ∙ c .enum-told4 .given .1)
 
 pub command-spec : {M : Type 1} → statement M
 command-spec =

@@ -1,4 +1,10 @@
 -- `sister::parts::laid` meets its contract. Assumes nothing.
+use native.Mathlib.Omega.{arith}
+use Rattle.format.specs.Format.{size}
+use Rattle.packet.specs.Reading.{partAt}
+use Rattle.sister.specs.declared.Kind.the-variants.{Clock, Resource, Lock, Unknown}
+use Rattle.sister.specs.Layout.{codesAt}
+use Rattle.sister.proofs.Found.{laid-as}
 use borrow.Author.Needs.{needs}
 use Rattle.sister.proofs.parts.laid.Statement.{statement}
 use Rattle.sister.proofs.parts.laid.Tie as tie
@@ -31,16 +37,20 @@ enum-told-4 : tie.Need-enum-told-4
 enum-told-4 c = search needs
 
 returns : tie.Need-returns
-returns c = rw (c .enum-told .given .1)
+unfolding codesAt partAt size
+returns c = laid-as Clock (c .before .before .args .k) _ _ _ _ (c .before .before .args .f) (c .enum-told .given .1) (omega arith) (omega arith) (omega arith) (omega arith)
 
 returns-2 : tie.Need-returns-2
-returns-2 c = rw (c .enum-told2 .given .1)
+unfolding codesAt partAt size
+returns-2 c = laid-as Resource (c .before .before .args .k) _ _ _ _ (c .before .before .args .f) (c .enum-told2 .given .1) (omega arith) (omega arith) (omega arith) (omega arith)
 
 returns-3 : tie.Need-returns-3
-returns-3 c = rw (c .enum-told3 .given .1)
+unfolding codesAt partAt size
+returns-3 c = laid-as Lock (c .before .before .args .k) _ _ _ _ (c .before .before .args .f) (c .enum-told3 .given .1) (omega arith) (omega arith) (omega arith) (omega arith)
 
 returns-4 : tie.Need-returns-4
-returns-4 c = rw (c .enum-told4 .given .1)
+unfolding codesAt partAt size
+returns-4 c = laid-as Unknown (c .before .before .args .k) _ _ _ _ (c .before .before .args .f) (c .enum-told4 .given .1) (omega arith) (omega arith) (omega arith) (omega arith)
 
 pub laid-spec : {M : Type 1} → statement M
 laid-spec =

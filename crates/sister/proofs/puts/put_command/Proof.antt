@@ -1,128 +1,74 @@
 -- `sister::puts::put_command` meets its contract. Assumes nothing.
-use mathlib.Core.Path.{_≡_, sym, ap, ap₂, _∙_}
-use Prim.Native.Nat.{ℕ, _+_, _*_, _-_}
+use mathlib.Core.Path.{sym, ap, _∙_}
+use Prim.Native.Nat.{_+_, _*_}
 use denote.Ref.{now}
 use native.Mathlib.Omega.{arith}
-use lib.Seq.{sets}
-use Rattle.laws.specs.Bits.{bits}
-use Rattle.sister.specs.Table.{tagOf, kindFor, countFor, contentBytes, codeCount}
+use Rattle.sister.specs.Table.{tagOf}
 use Rattle.sister.specs.declared.parts.Layout.{Layout}
-use Rattle.sister.specs.Layout.{layoutOf, headBits, codeBits}
-use Rattle.sister.proofs.Found.{places}
-use Rattle.sister.proofs.Rows.{few-bytes}
-use Rattle.sister.proofs.Put.{counted, numbers-put, together, address-end}
+use Rattle.sister.proofs.Put.{counted, reaches, together}
 use borrow.Author.Needs.{needs}
 use Rattle.sister.proofs.puts.put_command.Statement.{statement}
 use Rattle.sister.proofs.puts.put_command.Tie as tie
 
+laid-for-requires : tie.Need-laid-for-requires
+laid-for-requires c κs = let x = c .before .before .before .args in counted (x .c) (now (x .address)) (now (x .codes)) (c .before .before .before .pre) .few
+
 kind-for-requires : tie.Need-kind-for-requires
 kind-for-requires c κs = search needs
-
-count-for-requires : tie.Need-count-for-requires
-count-for-requires c κs = search needs
-
-laid-requires : tie.Need-laid-requires
-laid-requires c κs = let x = c .before .before .before .before .before .args in omega (arith, c .count-for .ensures, counted (x .c) (now (x .address)) (now (x .codes)) (c .before .before .before .before .before .pre) .few)
 
 tag-of-requires : tie.Need-tag-of-requires
 tag-of-requires c κs = search needs
 
 put-head-requires : tie.Need-put-head-requires
 put-head-requires c κs =
-    let x = c .before .before .before .before .before .before .before .before .args in
-    let h = counted (x .c) (now (x .address)) (now (x .codes)) (c .before .before .before .before .before .before .before .before .pre) in
-    let l : c .before .before .laid .result ≡ layoutOf (kindFor (x .c)) (countFor (x .c)) = c .before .before .laid .ensures ∙ ap₂ layoutOf (c .before .before .before .before .kind-for .ensures) (c .before .before .before .count-for .ensures) in
-    let lb = ap (λ (y : Layout). y .bytes) l in
-    let la = ap (λ (y : Layout). y .address) l in
-    let lp = ap (λ (y : Layout). y .place) l in
-    let lc = ap (λ (y : Layout). y .codes) l in
-    let z = places (kindFor (x .c)) (countFor (x .c)) (h .few) in
-    omega (arith, lb, few-bytes (kindFor (x .c)) (countFor (x .c)) (h .few))
+    let x = c .before .before .before .before .before .before .before .args in
+    reaches (x .c) (c .before .before .before .laid-for .result) (c .before .before .before .laid-for .ensures) (counted (x .c) (now (x .address)) (now (x .codes)) (c .before .before .before .before .before .before .before .pre) .few) .0
 
 put-numbers-requires : tie.Need-put-numbers-requires
-put-numbers-requires c κs = let x = c .before .before .before .before .before .before .before .before .before .before .before .before .args in counted (x .c) (now (x .address)) (now (x .codes)) (c .before .before .before .before .before .before .before .before .before .before .before .before .pre) .few
+put-numbers-requires c κs = let x = c .before .before .before .before .before .before .before .before .before .before .before .args in counted (x .c) (now (x .address)) (now (x .codes)) (c .before .before .before .before .before .before .before .before .before .before .before .pre) .few
 
 mul-put-fields : tie.Need-mul-put-fields
 mul-put-fields c =
-    let x = c .before .before .before .before .before .before .before .before .before .before .before .before .before .before .before .before .before .args in
-    let h = counted (x .c) (now (x .address)) (now (x .codes)) (c .before .before .before .before .before .before .before .before .before .before .before .before .before .before .before .before .before .pre) in
-    let l : c .before .before .before .before .before .before .before .before .before .before .before .laid .result ≡ layoutOf (kindFor (x .c)) (countFor (x .c)) = c .before .before .before .before .before .before .before .before .before .before .before .laid .ensures ∙ ap₂ layoutOf (c .before .before .before .before .before .before .before .before .before .before .before .before .before .kind-for .ensures) (c .before .before .before .before .before .before .before .before .before .before .before .before .count-for .ensures) in
-    let lb = ap (λ (y : Layout). y .bytes) l in
-    let la = ap (λ (y : Layout). y .address) l in
-    let lp = ap (λ (y : Layout). y .place) l in
-    let lc = ap (λ (y : Layout). y .codes) l in
-    let z = places (kindFor (x .c)) (countFor (x .c)) (h .few) in
-    omega (arith, la, lp, z .0, address-end (x .c) (c .before .before .before .before .before .before .before .before .before .before .before .laid .result .address) la)
+    let x = c .before .before .before .before .before .before .before .before .before .before .before .before .before .before .before .before .args in
+    omega (arith, reaches (x .c) (c .before .before .before .before .before .before .before .before .before .before .before .before .laid-for .result) (c .before .before .before .before .before .before .before .before .before .before .before .before .laid-for .ensures) (counted (x .c) (now (x .address)) (now (x .codes)) (c .before .before .before .before .before .before .before .before .before .before .before .before .before .before .before .before .pre) .few) .4)
 
 sub-put-fields : tie.Need-sub-put-fields
 sub-put-fields c =
-    let x = c .before .before .before .before .before .before .before .before .before .before .before .before .before .before .before .before .before .before .args in
-    let h = counted (x .c) (now (x .address)) (now (x .codes)) (c .before .before .before .before .before .before .before .before .before .before .before .before .before .before .before .before .before .before .pre) in
-    let l : c .before .before .before .before .before .before .before .before .before .before .before .before .laid .result ≡ layoutOf (kindFor (x .c)) (countFor (x .c)) = c .before .before .before .before .before .before .before .before .before .before .before .before .laid .ensures ∙ ap₂ layoutOf (c .before .before .before .before .before .before .before .before .before .before .before .before .before .before .kind-for .ensures) (c .before .before .before .before .before .before .before .before .before .before .before .before .before .count-for .ensures) in
-    let lb = ap (λ (y : Layout). y .bytes) l in
-    let la = ap (λ (y : Layout). y .address) l in
-    let lp = ap (λ (y : Layout). y .place) l in
-    let lc = ap (λ (y : Layout). y .codes) l in
-    let z = places (kindFor (x .c)) (countFor (x .c)) (h .few) in
-    omega (arith, la, lp, address-end (x .c) (c .before .before .before .before .before .before .before .before .before .before .before .before .laid .result .address) la)
+    let x = c .before .before .before .before .before .before .before .before .before .before .before .before .before .before .before .before .before .args in
+    reaches (x .c) (c .before .before .before .before .before .before .before .before .before .before .before .before .before .laid-for .result) (c .before .before .before .before .before .before .before .before .before .before .before .before .before .laid-for .ensures) (counted (x .c) (now (x .address)) (now (x .codes)) (c .before .before .before .before .before .before .before .before .before .before .before .before .before .before .before .before .before .pre) .few) .1
 
 put-fields-requires : tie.Need-put-fields-requires
 put-fields-requires c κs = search needs
 
 put-codes-requires : tie.Need-put-codes-requires
 put-codes-requires c κs =
-    let x = c .before .before .before .before .before .before .before .before .before .before .before .before .before .before .before .before .before .before .before .before .before .before .args in
-    let h = counted (x .c) (now (x .address)) (now (x .codes)) (c .before .before .before .before .before .before .before .before .before .before .before .before .before .before .before .before .before .before .before .before .before .before .pre) in
-    let l : c .before .before .before .before .before .before .before .before .before .before .before .before .before .before .before .before .laid .result ≡ layoutOf (kindFor (x .c)) (countFor (x .c)) = c .before .before .before .before .before .before .before .before .before .before .before .before .before .before .before .before .laid .ensures ∙ ap₂ layoutOf (c .before .before .before .before .before .before .before .before .before .before .before .before .before .before .before .before .before .before .kind-for .ensures) (c .before .before .before .before .before .before .before .before .before .before .before .before .before .before .before .before .before .count-for .ensures) in
-    let lb = ap (λ (y : Layout). y .bytes) l in
-    let la = ap (λ (y : Layout). y .address) l in
-    let lp = ap (λ (y : Layout). y .place) l in
-    let lc = ap (λ (y : Layout). y .codes) l in
-    let z = places (kindFor (x .c)) (countFor (x .c)) (h .few) in
-    (omega (arith, lp, z .0), omega (arith, lc, z .1), h .codes-long ∙ ap (λ (n : ℕ). 23 * n) (sym lc))
+    let x = c .before .before .before .before .before .before .before .before .before .before .before .before .before .before .before .before .before .before .before .before .before .args in
+    let h = counted (x .c) (now (x .address)) (now (x .codes)) (c .before .before .before .before .before .before .before .before .before .before .before .before .before .before .before .before .before .before .before .before .before .pre) in
+    let z = reaches (x .c) (c .before .before .before .before .before .before .before .before .before .before .before .before .before .before .before .before .before .laid-for .result) (c .before .before .before .before .before .before .before .before .before .before .before .before .before .before .before .before .before .laid-for .ensures) (h .few) in
+    (omega (arith, z .2), z .3, h .codes-long ∙ ap (λ (l : Layout). 23 * l .codes) (sym (c .before .before .before .before .before .before .before .before .before .before .before .before .before .before .before .before .before .laid-for .ensures)))
 
 add-result : tie.Need-add-result
 add-result c =
-    let x = c .before .before .before .before .before .before .before .before .before .before .before .before .before .before .before .before .before .before .before .before .before .before .before .before .before .before .args in
-    let h = counted (x .c) (now (x .address)) (now (x .codes)) (c .before .before .before .before .before .before .before .before .before .before .before .before .before .before .before .before .before .before .before .before .before .before .before .before .before .before .pre) in
-    let l : c .before .before .before .before .before .before .before .before .before .before .before .before .before .before .before .before .before .before .before .before .laid .result ≡ layoutOf (kindFor (x .c)) (countFor (x .c)) = c .before .before .before .before .before .before .before .before .before .before .before .before .before .before .before .before .before .before .before .before .laid .ensures ∙ ap₂ layoutOf (c .before .before .before .before .before .before .before .before .before .before .before .before .before .before .before .before .before .before .before .before .before .before .kind-for .ensures) (c .before .before .before .before .before .before .before .before .before .before .before .before .before .before .before .before .before .before .before .before .before .count-for .ensures) in
-    let lb = ap (λ (y : Layout). y .bytes) l in
-    let la = ap (λ (y : Layout). y .address) l in
-    let lp = ap (λ (y : Layout). y .place) l in
-    let lc = ap (λ (y : Layout). y .codes) l in
-    let z = places (kindFor (x .c)) (countFor (x .c)) (h .few) in
-    omega (arith, lb, few-bytes (kindFor (x .c)) (countFor (x .c)) (h .few))
+    let x = c .before .before .before .before .before .before .before .before .before .before .before .before .before .before .before .before .before .before .before .before .before .before .before .before .before .args in
+    omega (arith, reaches (x .c) (c .before .before .before .before .before .before .before .before .before .before .before .before .before .before .before .before .before .before .before .before .before .laid-for .result) (c .before .before .before .before .before .before .before .before .before .before .before .before .before .before .before .before .before .before .before .before .before .laid-for .ensures) (counted (x .c) (now (x .address)) (now (x .codes)) (c .before .before .before .before .before .before .before .before .before .before .before .before .before .before .before .before .before .before .before .before .before .before .before .before .before .pre) .few) .0)
 
 same-length : tie.Need-same-length
 same-length c = search needs
 
 returns : tie.Need-returns
 returns c =
-    let x = c .before .before .before .before .before .before .before .before .before .before .before .before .before .before .before .before .before .before .before .before .before .before .before .before .before .before .args in
-    let h = counted (x .c) (now (x .address)) (now (x .codes)) (c .before .before .before .before .before .before .before .before .before .before .before .before .before .before .before .before .before .before .before .before .before .before .before .before .before .before .pre) in
-    let l : c .before .before .before .before .before .before .before .before .before .before .before .before .before .before .before .before .before .before .before .before .laid .result ≡ layoutOf (kindFor (x .c)) (countFor (x .c)) = c .before .before .before .before .before .before .before .before .before .before .before .before .before .before .before .before .before .before .before .before .laid .ensures ∙ ap₂ layoutOf (c .before .before .before .before .before .before .before .before .before .before .before .before .before .before .before .before .before .before .before .before .before .before .kind-for .ensures) (c .before .before .before .before .before .before .before .before .before .before .before .before .before .before .before .before .before .before .before .before .before .count-for .ensures) in
-    let lb = ap (λ (y : Layout). y .bytes) l in
-    let la = ap (λ (y : Layout). y .address) l in
-    let lp = ap (λ (y : Layout). y .place) l in
-    let lc = ap (λ (y : Layout). y .codes) l in
-    let z = places (kindFor (x .c)) (countFor (x .c)) (h .few) in
-    let o = now (x .out) in
-    let o1 = c .before .before .before .before .before .before .before .before .before .before .before .before .before .before .before .before .before .put-head .last .0 in
-    let o2 = c .before .before .before .before .before .before .before .before .before .before .before .before .before .put-numbers .last .0 in
-    let o3 = c .before .before .before .before .before .before .before .put-fields .last .0 in
-    let o4 = c .before .before .before .put-codes .last .0 in
-    let e1 : bits o1 ≡ sets (bits o) 0 (headBits (tagOf (kindFor (x .c))) (contentBytes (kindFor (x .c)) (countFor (x .c)))) = c .before .before .before .before .before .before .before .before .before .before .before .before .before .before .before .before .before .put-head .ensures ∙ ap₂ (λ (t n : ℕ). sets (bits o) 0 (headBits t n)) (c .before .before .before .before .before .before .before .before .before .before .before .before .before .before .before .before .before .before .tag-of .ensures ∙ ap tagOf (c .before .before .before .before .before .before .before .before .before .before .before .before .before .before .before .before .before .before .before .before .before .before .kind-for .ensures)) lb in
-    let e3 = numbers-put o2 o3 (now (x .address)) (c .before .before .before .before .before .before .before .before .before .before .before .before .before .before .before .before .before .before .before .before .laid .result .place - 8 * c .before .before .before .before .before .before .before .before .before .before .before .before .before .before .before .before .before .before .before .before .laid .result .address) 8 (omega (arith, lp, z .0)) (omega arith) (omega (arith, h .address-long, z .2)) (c .before .before .before .before .before .before .before .put-fields .ensures) in
-    let e4 : bits o4 ≡ sets (bits o3) (c .before .before .before .before .before .before .before .before .before .before .before .before .before .before .before .before .before .before .before .before .laid .result .place) (codeBits (codeCount (kindFor (x .c)) (countFor (x .c))) (now (x .codes))) = c .before .before .before .put-codes .ensures ∙ ap (λ (n : ℕ). sets (bits o3) (c .before .before .before .before .before .before .before .before .before .before .before .before .before .before .before .before .before .before .before .before .laid .result .place) (codeBits n (now (x .codes)))) lc in
-    (ap (λ (n : ℕ). 3 + n) lb, together (x .c) (now (x .address)) (now (x .codes)) o o1 o2 o3 o4 (c .before .before .before .before .before .before .before .before .before .before .before .before .before .before .before .before .before .before .before .before .laid .result .place) (c .before .before .before .before .before .before .before .before .before .before .before .before .before .before .before .before .before .before .before .before .laid .result .address) h lp la e1 (c .before .before .before .before .before .before .before .before .before .before .before .before .before .put-numbers .ensures) e3 e4)
+    let x = c .before .before .before .before .before .before .before .before .before .before .before .before .before .before .before .before .before .before .before .before .before .before .before .before .before .args in
+    let l = c .before .before .before .before .before .before .before .before .before .before .before .before .before .before .before .before .before .before .before .before .before .laid-for .ensures in
+    let h = counted (x .c) (now (x .address)) (now (x .codes)) (c .before .before .before .before .before .before .before .before .before .before .before .before .before .before .before .before .before .before .before .before .before .before .before .before .before .pre) in
+    let t = c .before .before .before .before .before .before .before .before .before .before .before .before .before .before .before .before .before .before .tag-of .ensures ∙ ap tagOf (c .before .before .before .before .before .before .before .before .before .before .before .before .before .before .before .before .before .before .before .kind-for .ensures) in
+    (ap (λ (y : Layout). 3 + y .bytes) l, together (x .c) (now (x .address)) (now (x .codes)) (now (x .out)) (c .before .before .before .before .before .before .before .before .before .before .before .before .before .before .before .before .before .put-head .last .0) (c .before .before .before .before .before .before .before .before .before .before .before .before .before .put-numbers .last .0) (c .before .before .before .before .before .before .before .put-fields .last .0) (c .before .before .before .put-codes .last .0) (c .before .before .before .before .before .before .before .before .before .before .before .before .before .before .before .before .before .before .before .before .before .laid-for .result) (c .before .before .before .before .before .before .before .before .before .before .before .before .before .before .before .before .before .before .tag-of .result) h l t (c .before .before .before .before .before .before .before .before .before .before .before .before .before .before .before .before .before .put-head .ensures) (c .before .before .before .before .before .before .before .before .before .before .before .before .before .put-numbers .ensures) (c .before .before .before .before .before .before .before .put-fields .ensures) (c .before .before .before .put-codes .ensures))
 
 pub put-command-spec : {M : Type 1} → statement M
 put-command-spec =
     tie.close
     (tie.spec
+    laid-for-requires
     kind-for-requires
-    count-for-requires
-    laid-requires
     tag-of-requires
     put-head-requires
     put-numbers-requires

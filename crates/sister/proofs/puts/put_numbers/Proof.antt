@@ -2,6 +2,7 @@
 use mathlib.Core.List.{[], _∷_}
 use Rattle.sister.specs.declared.Command.{Command}
 use lib.Seq.{sets}
+use Rattle.format.specs.Format.{encode}
 use denote.Ref.{now}
 use Rattle.sister.specs.Table.{countFor}
 use Rattle.sister.specs.Layout.{numberBits}
@@ -10,7 +11,7 @@ use native.Mathlib.Omega.{arith}
 use Rattle.laws.specs.Bits.{bits, bitsOf, spread}
 use Rattle.laws.proofs.Bits.{length-bitsOf}
 use Rattle.laws.proofs.Writes.{join}
-use Rattle.sister.proofs.Put.{number-put, numbers-put}
+use Rattle.sister.proofs.Put.{number-put, numbers-put, clock-bits, resource-bits, lock-bits}
 use borrow.Author.Needs.{needs}
 use Rattle.sister.proofs.puts.put_numbers.Statement.{statement}
 use Rattle.sister.proofs.puts.put_numbers.Tie as tie
@@ -65,6 +66,7 @@ returns c =
     (number-put o _ 24 16 (x .0) (omega arith) (omega arith) (c .before .before .before .before .before .before .before .put-field .ensures))
     (numbers-put (c .before .before .before .before .before .before .before .put-field .last .0) _ (x .1 .0 ∷ x .1 .1 .0 ∷ x .1 .1 .1 .0 ∷ x .1 .1 .1 .1 .0 ∷ x .1 .1 .1 .1 .1 .0 ∷ []) 40 8 (omega arith) (omega arith) (omega arith) (c .before .before .put-fields .ensures))
     (omega (arith, length-bitsOf 16 (x .0)))
+    ∙ ap (sets (bits o) 24) (clock-bits (x .0) (x .1 .0) (x .1 .1 .0) (x .1 .1 .1 .0) (x .1 .1 .1 .1 .0) (x .1 .1 .1 .1 .1 .0))
     ∙ ap (λ (d : Command). sets (bits o) 24 (numberBits d)) (sym (c .before .before .before .before .before .before .before .before .before .before .c .given .1))
 
 same-length-2 : tie.Need-same-length-2
@@ -75,6 +77,7 @@ returns-2 c =
     let o = now (c .before .before .before .before .before .before .before .before .args .out) in
     let x = c .before .before .before .before .before .c2 .given .0 in
     number-put o _ 24 8 (x .0) (omega arith) (omega arith) (c .before .before .put-field2 .ensures)
+    ∙ ap (sets (bits o) 24) (resource-bits (x .0))
     ∙ ap (λ (d : Command). sets (bits o) 24 (numberBits d)) (sym (c .before .before .before .before .before .c2 .given .1))
 
 same-length-3 : tie.Need-same-length-3
@@ -88,9 +91,11 @@ returns-3 c =
     (number-put o _ 24 32 (x .0) (omega arith) (omega arith) (c .before .before .before .before .before .before .put-field3 .ensures))
     (number-put (c .before .before .before .before .before .before .put-field3 .last .0) _ 56 8 (x .1 .0) (omega arith) (omega arith) (c .before .before .put-field4 .ensures))
     (omega (arith, length-bitsOf 32 (x .0)))
+    ∙ ap (sets (bits o) 24) (lock-bits (x .0) (x .1 .0))
     ∙ ap (λ (d : Command). sets (bits o) 24 (numberBits d)) (sym (c .before .before .before .before .before .before .before .before .before .c3 .given .1))
 
 returns-4 : tie.Need-returns-4
+unfolding numberBits encode
 returns-4 c = rw (c .enum-told .given .1)
 
 pub put-numbers-spec : {M : Type 1} → statement M

@@ -1,12 +1,12 @@
--- `sister::code_of` meets its contract. Assumes nothing.
+-- `carry::code_of` meets its contract. Assumes nothing.
 use mathlib.Core.Path.{ap, _∙_}
 use Prim.Native.Nat.{ℕ}
 use lib.ListN.{take}
 use denote.Ref.{now}
-use Rattle.sister.specs.Carrying.{codeDigits}
+use Rattle.carry.specs.Carrying.{codeDigits}
 use borrow.Author.Needs.{needs}
-use Rattle.sister.proofs.code_of.Statement.{statement}
-use Rattle.sister.proofs.code_of.Tie as tie
+use Rattle.carry.proofs.code_of.Statement.{statement}
+use Rattle.carry.proofs.code_of.Tie as tie
 
 command-of-requires : tie.Need-command-of-requires
 command-of-requires c κs = search needs

@@ -1,7 +1,7 @@
--- `sister::command_of` meets its contract. Assumes nothing.
+-- `carry::command_of` meets its contract. Assumes nothing.
 use borrow.Author.Needs.{needs}
-use Rattle.sister.proofs.command_of.Statement.{statement}
-use Rattle.sister.proofs.command_of.Tie as tie
+use Rattle.carry.proofs.command_of.Statement.{statement}
+use Rattle.carry.proofs.command_of.Tie as tie
 
 enum-told : tie.Need-enum-told
 enum-told c = search needs

@@ -1,4 +1,4 @@
--- `sister::carry::padded` meets its contract. Assumes nothing.
+-- `carry::padded` meets its contract. Assumes nothing.
 use Prim.Native.Nat.{ℕ}
 use mathlib.Core.Path.{ap}
 use lib.ListN.{set, getD, length-set}
@@ -10,8 +10,8 @@ use lib.Seq.{sets}
 use Rattle.packet.specs.Reading.{zeros}
 use Rattle.laws.proofs.Writes.{put-turn, put-done}
 use borrow.Author.Needs.{needs}
-use Rattle.sister.proofs.carry.padded.Statement.{statement}
-use Rattle.sister.proofs.carry.padded.Tie as tie
+use Rattle.carry.proofs.padded.Statement.{statement}
+use Rattle.carry.proofs.padded.Tie as tie
 
 abbrev Inv-loop : tie.InvT-loop
 Inv-loop xs d₀ j₀ d j = (j ≤ length xs) × (length d ≡ 35) × (sets (zeros 35) 0 xs ≡ sets d (0 + j) (drop j xs))

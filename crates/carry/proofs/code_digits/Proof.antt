@@ -1,7 +1,7 @@
--- `sister::carry::code_digits` meets its contract. Assumes nothing.
+-- `carry::code_digits` meets its contract. Assumes nothing.
 use borrow.Author.Needs.{needs}
-use Rattle.sister.proofs.carry.code_digits.Statement.{statement}
-use Rattle.sister.proofs.carry.code_digits.Tie as tie
+use Rattle.carry.proofs.code_digits.Statement.{statement}
+use Rattle.carry.proofs.code_digits.Tie as tie
 
 enum-told : tie.Need-enum-told
 enum-told c = search needs

@@ -1,7 +1,7 @@
--- `sister::content_of` meets its contract. Assumes nothing.
+-- `carry::content_of` meets its contract. Assumes nothing.
 use borrow.Author.Needs.{needs}
-use Rattle.sister.proofs.content_of.Statement.{statement}
-use Rattle.sister.proofs.content_of.Tie as tie
+use Rattle.carry.proofs.content_of.Statement.{statement}
+use Rattle.carry.proofs.content_of.Tie as tie
 
 enum-known-command : tie.Need-enum-known-command
 enum-known-command c = search needs

@@ -1,4 +1,4 @@
--- `sister::digits_of` meets its contract. Assumes nothing.
+-- `carry::digits_of` meets its contract. Assumes nothing.
 use mathlib.Core.Path.{_≡_, ap, _∙_}
 use Prim.Native.Nat.{ℕ}
 use denote.Ref.{now}
@@ -7,8 +7,8 @@ use lib.ListN.{length, take, length-take}
 use lib.Seq.{sets}
 use Rattle.packet.specs.Reading.{zeros}
 use borrow.Author.Needs.{needs}
-use Rattle.sister.proofs.digits_of.Statement.{statement}
-use Rattle.sister.proofs.digits_of.Tie as tie
+use Rattle.carry.proofs.digits_of.Statement.{statement}
+use Rattle.carry.proofs.digits_of.Tie as tie
 
 code-digits-requires : tie.Need-code-digits-requires
 code-digits-requires c κs = search needs

@@ -1,12 +1,13 @@
 -- A clock or a resource command as the content of our packets of type 3 or 1, and back (paper 02, K14).
+use mathlib.Core.Path.{_≡_}
 use Prim.Native.Nat.{ℕ}
 use mathlib.Core.List.{List}
 use lib.ListN.{take}
 use Rattle.packet.specs.declared.Content.{Content}
 use Rattle.packet.specs.declared.Content.the-variants as content
 use Rattle.packet.specs.Reading.{padded}
 use Rattle.sister.specs.declared.Command.{Command}
 use Rattle.sister.specs.declared.Command.the-variants as command
 
 -- the content of a command; raw where our packets have none
 abbrev pub contentFor : Command → Content
@@ -42,3 +43,14 @@ digitsFor c codes = padded 35 (take (codeDigits c) codes)
 -- and back: those of its code, of the digits beside a content
 abbrev pub codeFor : Content → List ℕ → List ℕ
 codeFor c digits = take (codeDigits (commandFor c)) digits
+
+-- ---- what the theorems about there and back say (02, K14)
+-- a command with the digits of its codes is the same
+pub record CommandSame (c : Command) (codes : List ℕ) : Type 0 where
+  pub command-same : commandFor (contentFor c) ≡ c
+  pub codes-same : codeFor (contentFor c) (digitsFor c codes) ≡ codes
+
+-- and so is a content with the digits beside it
+pub record ContentSame (c : Content) (digits : List ℕ) : Type 0 where
+  pub content-same : contentFor (commandFor c) ≡ c
+  pub digits-same : digitsFor (commandFor c) (codeFor c digits) ≡ digits
