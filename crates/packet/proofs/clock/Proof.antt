@@ -8,10 +8,6 @@ use Rattle.packet.proofs.Contents.{cut-at}
 use borrow.Author.Needs.{needs}
 use Rattle.packet.proofs.clock.Statement.{statement}
 use Rattle.packet.proofs.clock.Tie as tie
-use Rattle.packet.proofs.clock.Reads as reads
-use Rattle.packet.proofs.clock.Lts as lts
-use Rattle.packet.proofs.byte_at.Reads as byte-at-reads
-use Rattle.packet.proofs.word_at.Reads as word-at-reads
 
 word-at-requires : tie.Need-word-at-requires
 word-at-requires c κs = search needs

@@ -4,10 +4,6 @@ use Rattle.packet.proofs.Contents.{laid-is}
 use borrow.Author.Needs.{needs}
 use Rattle.packet.proofs.lay.Statement.{statement}
 use Rattle.packet.proofs.lay.Tie as tie
-use Rattle.packet.proofs.lay.Reads as reads
-use Rattle.packet.proofs.lay.Lts as lts
-use Rattle.packet.proofs.laid_as.Reads as laid-as-reads
-use Rattle.packet.proofs.six.Reads as six-reads
 
 enum-told : tie.Need-enum-told
 enum-told c = search needs

@@ -8,11 +8,6 @@ use Rattle.packet.proofs.Contents.{cut-at}
 use borrow.Author.Needs.{needs}
 use Rattle.packet.proofs.named.Statement.{statement}
 use Rattle.packet.proofs.named.Tie as tie
-use Rattle.packet.proofs.named.Reads as reads
-use Rattle.packet.proofs.named.Lts as lts
-use Rattle.packet.proofs.byte_at.Reads as byte-at-reads
-use Rattle.packet.proofs.clock.Reads as clock-reads
-use Rattle.packet.proofs.word_at.Reads as word-at-reads
 
 enum-told : tie.Need-enum-told
 enum-told c = search needs

@@ -4,10 +4,6 @@ use Rattle.writer.proofs.Sizes.{counted}
 use borrow.Author.Needs.{needs}
 use Rattle.writer.proofs.content.count_for.Statement.{statement}
 use Rattle.writer.proofs.content.count_for.Tie as tie
-use Rattle.writer.proofs.content.count_for.Reads as reads
-use Rattle.writer.proofs.content.count_for.Lts as lts
-use Rattle.packet.proofs.lay.Reads as lay-reads
-use Rattle.packet.proofs.row_of.Reads as row-of-reads
 
 lay-requires : tie.Need-lay-requires
 lay-requires c κs = search needs

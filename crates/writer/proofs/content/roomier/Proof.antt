@@ -7,8 +7,6 @@ use Rattle.packet.proofs.Contents.{listed-take}
 use borrow.Author.Needs.{needs}
 use Rattle.writer.proofs.content.roomier.Statement.{statement}
 use Rattle.writer.proofs.content.roomier.Tie as tie
-use Rattle.writer.proofs.content.roomier.Reads as reads
-use Rattle.writer.proofs.content.roomier.Lts as lts
 
 array-read-all : tie.Need-array-read-all
 array-read-all c = search needs
