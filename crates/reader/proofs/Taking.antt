@@ -20,7 +20,6 @@ use Rattle.format.specs.Format.{own, need, decode, flat, sound}
 use Rattle.format.proofs.Tables.{length-flat}
 use Rattle.format.proofs.Sound.{sound-is}
 use Rattle.packet.specs.declared.Kind.{Kind}
-use Rattle.packet.specs.declared.Kind.the-variants.{Frequencies, Address, Keep, Clock, Reset, Factory, Drill, Text, Hold, Raw, Unknown}
 use Rattle.packet.specs.declared.Content.{Content}
 use Rattle.packet.specs.declared.Laid.{Laid}
 use Rattle.packet.specs.Table.{rowOf}
