@@ -20,8 +20,12 @@ static unsigned kind_of(unsigned type)
     }
 }
 
-static int is_clock(unsigned year, const uint8_t *t)
+static int is_clock(const uint32_t *numbers)
 {
+    unsigned year = (uint16_t)numbers[0];
+    uint8_t t[5];
+    for (int i = 0; i < 5; i++)
+        t[i] = (uint8_t)numbers[i + 1];
     static const uint8_t days[12] = {31, 28, 31, 30, 31, 30, 31, 31, 30, 31, 30, 31};
     if (t[0] < 1 || t[0] > 12 || t[1] < 1 || t[2] > 23 || t[3] > 59 || t[4] > 59)
         return 0;
@@ -84,9 +88,9 @@ static void counted(struct walk *w, struct plain_opened *o)
 {
     struct plain_content *c = &o->fields.content;
     if (c->kind == TEXT) {
-        c->one[0] = *w->at >> 4;
-        c->one[1] = *w->at++ & 15;
-        w->field |= c->one[0] < 1 || c->one[0] > 3 || c->one[1] > 4;
+        c->numbers[0] = *w->at >> 4;
+        c->numbers[1] = *w->at++ & 15;
+        w->field |= c->numbers[0] < 1 || c->numbers[0] > 3 || c->numbers[1] > 4;
         ones(w, 0xF0);
         digits(w, o->fields.digits, 35);
     }
@@ -114,32 +118,33 @@ static void content(struct walk *w, struct plain_opened *o, size_t size)
         counted(w, o);
         break;
     case KEEP:
-        c->one[0] = number(w, 0, 1);
-        c->two = (uint16_t)(w->at[0] << 8 | w->at[1]);
+        c->numbers[0] = number(w, 0, 1);
+        c->numbers[1] = (uint16_t)(w->at[0] << 8 | w->at[1]);
         w->at += 2;
         break;
     case CLOCK:
-        c->two = (uint16_t)(w->at[0] << 8 | w->at[1]);
-        memcpy(c->one, w->at + 2, 5);
-        w->field |= !is_clock(c->two, c->one);
+        c->numbers[0] = (uint16_t)(w->at[0] << 8 | w->at[1]);
+        for (int i = 1; i < 6; i++)
+            c->numbers[i] = w->at[i + 1];
+        w->field |= !is_clock(c->numbers);
         w->at += 7;
         break;
     case RESET: case FACTORY:
-        c->one[0] = c->kind == RESET ? *w->at >> 4 & 3 : 0;
-        w->field |= *w->at >> 6 != 1 || (c->kind == RESET && (c->one[0] < 1 || c->one[0] > 2));
+        c->numbers[0] = c->kind == RESET ? *w->at >> 4 & 3 : 0;
+        w->field |= *w->at >> 6 != 1 || (c->kind == RESET && (c->numbers[0] < 1 || c->numbers[0] > 2));
         ones(w, c->kind == RESET ? 0x0F : 0x3F);
         w->at++;
         if (c->kind == RESET)
             digits(w, o->fields.digits, 6);
         break;
     case DRILL:
-        c->one[0] = *w->at & 15;
-        w->field |= *w->at++ >> 4 != 1 || c->one[0] < 1 || c->one[0] > 2;
+        c->numbers[0] = *w->at & 15;
+        w->field |= *w->at++ >> 4 != 1 || c->numbers[0] < 1 || c->numbers[0] > 2;
         ones(w, 0xF0);
         digits(w, o->fields.digits, 35);
         break;
     case HOLD:
-        c->one[0] = *w->at++;
+        c->numbers[0] = *w->at++;
         ones(w, 0xFF);
         w->at++;
         break;
@@ -220,19 +225,20 @@ static int digit_bad(const struct plain_fields *f, const uint8_t *codes, size_t 
     return 0;
 }
 
-/* Numbers outside their lists and ranges. */
+/* Numbers outside their lists and ranges; one that is too large for its field counts by its low bytes. */
 static int out_of_range(const struct plain_content *c, const uint8_t *body, size_t lent)
 {
+    uint8_t first = (uint8_t)c->numbers[0], second = (uint8_t)c->numbers[1];
     switch (c->kind) {
     case FREQUENCIES:
         for (size_t i = 0; i < lent; i += NUMBERS)
             if (body[i] == 0)
                 return 1;
         return 0;
-    case KEEP: return c->one[0] > 1;
-    case CLOCK: return !is_clock(c->two, c->one);
-    case RESET: case DRILL: return c->one[0] < 1 || c->one[0] > 2;
-    case TEXT: return c->one[0] < 1 || c->one[0] > 3 || c->one[1] > 4;
+    case KEEP: return first > 1;
+    case CLOCK: return !is_clock(c->numbers);
+    case RESET: case DRILL: return first < 1 || first > 2;
+    case TEXT: return first < 1 || first > 3 || second > 4;
     default: return 0;
     }
 }
@@ -283,28 +289,32 @@ static uint8_t *put_content(uint8_t *to, const struct plain_fields *f, const uin
     case ADDRESS:
         *to++ = (uint8_t)c->count;
         return put_digits(put_bytes(to, body, lent), f->digits, DIGITS);
-    case KEEP: case CLOCK:
-        if (kind == KEEP)
-            *to++ = c->one[0];
-        *to++ = (uint8_t)(c->two >> 8);
-        *to++ = (uint8_t)c->two;
-        return kind == KEEP ? to : put_bytes(to, c->one, 5);
+    case KEEP:
+        *to++ = (uint8_t)c->numbers[0];
+        *to++ = (uint8_t)(c->numbers[1] >> 8);
+        *to++ = (uint8_t)c->numbers[1];
+        return to;
+    case CLOCK:
+        *to++ = (uint8_t)(c->numbers[0] >> 8);
+        for (int i = 0; i < 6; i++)
+            *to++ = (uint8_t)c->numbers[i];
+        return to;
     case RESET:
-        *to++ = (uint8_t)(0x4F | c->one[0] << 4);
+        *to++ = (uint8_t)(0x4F | c->numbers[0] << 4);
         return put_digits(to, f->digits, 6);
     case FACTORY:
         *to++ = 0x7F;
         return to;
     case DRILL:
-        *to++ = (uint8_t)(0x10 | c->one[0]);
+        *to++ = (uint8_t)(0x10 | c->numbers[0]);
         return put_digits(to, f->digits, 35);
     case TEXT:
-        *to++ = (uint8_t)(c->one[0] << 4 | c->one[1]);
+        *to++ = (uint8_t)(c->numbers[0] << 4 | c->numbers[1]);
         to = put_digits(to, f->digits, 35);
         *to++ = (uint8_t)c->count;
         return put_bytes(to, body, lent);
     case HOLD:
-        *to++ = c->one[0];
+        *to++ = (uint8_t)c->numbers[0];
         *to++ = 0xFF;
         return to;
     default:

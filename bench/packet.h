@@ -2,12 +2,11 @@
 #include <stddef.h>
 #include <stdint.h>
 
-/* A content: the type that names its kind, 4 for a raw one; its count; its number of two bytes and those of one, in the order of its lines. */
+/* A content: the type that names its kind, 4 for a raw one; its numbers in the order of its lines, then zeros; its count. */
 struct plain_content {
     uint8_t kind;
+    uint32_t numbers[6];
     size_t count;
-    uint16_t two;
-    uint8_t one[5];
 };
 struct plain_fields {
     uint8_t kind;

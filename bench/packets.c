@@ -32,7 +32,7 @@ static unsigned kind_named(unsigned type)
 static void make_story(struct story *s, unsigned type, size_t n, size_t k)
 {
     unsigned kind = kind_named(type);
-    struct plain_content c = {(uint8_t)kind, 0, 0, {0}};
+    struct plain_content c = {(uint8_t)kind, {0}, 0};
     for (size_t i = 0; i < sizeof *s; i++)
         ((uint8_t *)s)[i] = 0;
     s->f.kind = (uint8_t)type;
@@ -53,14 +53,14 @@ static void make_story(struct story *s, unsigned type, size_t n, size_t k)
         some_digits(s->body + i + 2, 6);
     }
     if (kind == 2 || kind == 3)
-        c.two = (uint16_t)chance(65536);
+        c.numbers[kind == 2] = chance(65536);
     static const uint8_t most[5] = {12, 28, 23, 59, 59};
     for (int i = 0; kind == 3 && i < 5; i++)
-        c.one[i] = (uint8_t)(1 + chance(most[i]));
+        c.numbers[i + 1] = 1 + chance(most[i]);
     if (kind == 12 || kind == 14 || kind == 15 || kind == 2 || kind == 21)
-        c.one[0] = (uint8_t)(kind == 2 ? chance(2) : kind == 21 ? chance(256) : 1 + chance(kind == 15 ? 3 : 2));
+        c.numbers[0] = kind == 2 ? chance(2) : kind == 21 ? chance(256) : 1 + chance(kind == 15 ? 3 : 2);
     if (kind == 15)
-        c.one[1] = (uint8_t)chance(5);
+        c.numbers[1] = chance(5);
     s->f.content = c;
 }
 
@@ -69,7 +69,7 @@ static int same_fields(const struct plain_fields *a, const struct plain_fields *
     const struct plain_content *c = &a->content, *d = &b->content;
     return a->kind == b->kind && a->codes == b->codes && a->time == b->time && memcmp(a->digits, b->digits, 35) == 0
         && memcmp(a->certificate, b->certificate, 12) == 0 && memcmp(a->signature, b->signature, 64) == 0
-        && c->kind == d->kind && c->count == d->count && c->two == d->two && memcmp(c->one, d->one, 5) == 0;
+        && c->kind == d->kind && c->count == d->count && memcmp(c->numbers, d->numbers, sizeof c->numbers) == 0;
 }
 
 static unsigned read_alike(const uint8_t *p, size_t n)
@@ -98,11 +98,14 @@ static unsigned written_alike(const struct story *s, size_t room, uint8_t *mine,
 /* One thing wrong with the fields. */
 static void spoil(struct story *s)
 {
-    uint8_t *places[8] = {&s->f.kind, &s->f.content.kind, s->f.content.one, s->f.content.one + 1 + chance(4), s->f.digits + chance(35), s->f.certificate + chance(12), s->codes, s->body + chance(16)};
+    uint8_t *places[6] = {&s->f.kind, &s->f.content.kind, s->f.digits + chance(35), s->f.certificate + chance(12), s->codes, s->body + chance(16)};
     static const uint8_t edges[9] = {0, 1, 2, 3, 9, 10, 16, 32, 255};
+    static const uint32_t more[4] = {0, 256, 65536, 0xFFFF0000};
     size_t place = chance(11);
-    if (place < 8)
-        *places[place] = chance(2) ? edges[chance(9)] : (uint8_t)chance(32);
+    if (place < 2)
+        s->f.content.numbers[place == 0 ? 0 : 1 + chance(5)] = (chance(2) ? edges[chance(9)] : chance(32)) + more[chance(4)];
+    else if (place < 8)
+        *places[place - 2] = chance(2) ? edges[chance(9)] : (uint8_t)chance(32);
     else if (place == 8)
         s->f.codes += chance(2) ? 1 : 256;
     else if (place == 9)

@@ -7,17 +7,12 @@ ghost use Rattle.codec.specs.Codec.{toldAs, fieldsTold, openedAs, conten
 use packet::Content;
 use packet::Fields;
 
-// A content: the type that names its kind, 4 for a raw one; its count; its number of two bytes and those of one, in the order of its lines.
+// A content: the type that names its kind, 4 for a raw one; its numbers in the order of its lines, then zeros; its count.
 #[repr(C)]
 pub struct PlainContent {
     pub kind: u8,
+    pub numbers: [u32; 6],
     pub count: usize,
-    pub long: u16,
-    pub first: u8,
-    pub second: u8,
-    pub third: u8,
-    pub fourth: u8,
-    pub fifth: u8,
 }
 
 #[repr(C)]
@@ -46,84 +41,16 @@ pub struct PlainWritten {
     pub length: usize,
 }
 
-fn with_count(kind: u8, count: usize) -> PlainContent
-    ensures { λ r. ⌜ r ≡ record { kind = kind; count = count; long = 0; first = 0; second = 0; third = 0; fourth = 0; fifth = 0 } ⌝ }
-{
-    PlainContent {
-        kind: kind,
-        count: count,
-        long: 0,
-        first: 0,
-        second: 0,
-        third: 0,
-        fourth: 0,
-        fifth: 0,
-    }
-}
-
-fn with_number(kind: u8, first: u8) -> PlainContent
-    ensures { λ r. ⌜ r ≡ record { kind = kind; count = 0; long = 0; first = first; second = 0; third = 0; fourth = 0; fifth = 0 } ⌝ }
-{
-    PlainContent {
-        kind: kind,
-        count: 0,
-        long: 0,
-        first: first,
-        second: 0,
-        third: 0,
-        fourth: 0,
-        fifth: 0,
-    }
-}
-
 fn told(c: Content) -> PlainContent
     ensures { λ r. ⌜ r ≡ toldAs c ⌝ }
 {
-    match c {
-        Content::Raw => with_count(4, 0),
-        Content::Frequencies { count } => with_count(0, count),
-        Content::Address { length } => with_count(1, length),
-        Content::Keep { on, period } => PlainContent {
-            kind: 2,
-            count: 0,
-            long: period,
-            first: on,
-            second: 0,
-            third: 0,
-            fourth: 0,
-            fifth: 0,
-        },
-        Content::Clock {
-            year,
-            month,
-            day,
-            hour,
-            minute,
-            second,
-        } => PlainContent {
-            kind: 3,
-            count: 0,
-            long: year,
-            first: month,
-            second: day,
-            third: hour,
-            fourth: minute,
-            fifth: second,
-        },
-        Content::Reset { change } => with_number(12, change),
-        Content::Factory => with_number(13, 0),
-        Content::Drill { action } => with_number(14, action),
-        Content::Text { kind, set, length } => PlainContent {
-            kind: 15,
-            count: length,
-            long: 0,
-            first: kind,
-            second: set,
-            third: 0,
-            fourth: 0,
-            fifth: 0,
-        },
-        Content::Hold { serial } => with_number(21, serial),
+    let l = packet::lay(c);
+    let kind = l.kind;
+    let numbers = l.numbers;
+    PlainContent {
+        kind: packet::type_of(kind),
+        numbers: numbers,
+        count: l.count,
     }
 }
 
@@ -164,37 +91,12 @@ pub extern "C" fn codec_read(packet: &[u8]) -> PlainOpened
     }
 }
 
-// Any other kind is a raw content.
+// Any other kind is a raw content, and a number that is too large keeps its low bytes.
 fn content_from(c: PlainContent) -> Content
     ensures { λ r. ⌜ r ≡ contentFrom c ⌝ }
 {
-    let k = c.kind;
-    match k {
-        0 => Content::Frequencies { count: c.count },
-        1 => Content::Address { length: c.count },
-        2 => Content::Keep {
-            on: c.first,
-            period: c.long,
-        },
-        3 => Content::Clock {
-            year: c.long,
-            month: c.first,
-            day: c.second,
-            hour: c.third,
-            minute: c.fourth,
-            second: c.fifth,
-        },
-        12 => Content::Reset { change: c.first },
-        13 => Content::Factory,
-        14 => Content::Drill { action: c.first },
-        15 => Content::Text {
-            kind: c.first,
-            set: c.second,
-            length: c.count,
-        },
-        21 => Content::Hold { serial: c.first },
-        _ => Content::Raw,
-    }
+    let numbers = c.numbers;
+    packet::named(packet::kind_of(c.kind), &numbers, c.count)
 }
 
 fn fields_from(f: PlainFields) -> Fields

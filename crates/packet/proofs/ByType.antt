@@ -95,7 +95,7 @@ one-test x y e from-25 t =
     same true y e = sym e
     same false y e = sym (not-true y e)
 
-unknown-above : (t : ℕ) → 25 ≤ t → isUnknown (kindOf t) ≡ true
+pub unknown-above : (t : ℕ) → 25 ≤ t → isUnknown (kindOf t) ≡ true
 unknown-above t h =
     ap isUnknown
     (sym (above t record { n0 = λ e. omega arith; n1 = λ e. omega arith; n2 = λ e. omega arith; n3 = λ e. omega arith; n12 = λ e. omega arith; n13 = λ e. omega arith; n14 = λ e. omega arith; n15 = λ e. omega arith; n16 = λ e. omega arith; n21 = λ e. omega arith; n11 = λ e. omega arith } h))

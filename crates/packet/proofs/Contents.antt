@@ -1,18 +1,30 @@
 -- Contents and their numbers, a line a type; and what is repeated in each kind. Assumes nothing.
-use mathlib.Core.Path.{_≡_, refl, sym, ap, _∙_}
-use mathlib.Core.Bool.{true, false, true≢false}
+use mathlib.Core.Path.{_≡_, refl, sym, ap, _∙_, subst}
+use mathlib.Core.Bool.{true, false, not, cond, _&&_, true≢false}
 use mathlib.Core.List.{List, [], _∷_, _++_}
-use Prim.Native.Nat.{ℕ}
-use lib.ListN.{length}
+use Prim.Native.Nat.{ℕ, zero, suc, _+_, _%_, _<_, _≤_}
+use native.Mathlib.Nat.{zero-mod}
+use native.Mathlib.Omega.{arith}
+use lib.Dec.{ltb, eqb}
+use lib.ListN.{length, getD, take, drop}
+use lib.Seq.{drop-cons}
+use borrow.Author.Tests.{ltb-true, eqb-true, not-true}
+use Rattle.laws.specs.Scan.{all}
+use Rattle.laws.proofs.Cases.{if-yes, and-left, and-right}
 use Rattle.format.specs.Format.{octets}
 use Rattle.packet.specs.declared.Kind.{Kind}
 use Rattle.packet.specs.declared.Kind.the-variants.{Frequencies, Address, Keep, Clock, Reset, Factory, Drill, Text, Hold, Raw, Unknown}
 use Rattle.packet.specs.declared.Content.{Content}
 use Rattle.packet.specs.declared.Content.the-variants as content
 use Rattle.packet.specs.declared.Counting.the-variants as counting
-use Rattle.packet.specs.Table.{rowOf, countBy}
-use Rattle.packet.specs.Content.{contentOf, kindFor, numbersOf, numbersIn, countFor}
-use Rattle.packet.specs.Reading.{hasEntries, unknownBy, isUnknown}
+use Rattle.packet.specs.Table.{typeOf, rowOf, countBy}
+use Rattle.packet.specs.declared.Laid.{Laid}
+use Rattle.packet.specs.Content.{Parts, partsOf, contentOf, kindFor, numbersOf, numbersIn, countFor}
+use Rattle.packet.specs.Reading.{hasEntries, unknownBy, isUnknown, padded}
+use Rattle.packet.specs.InCode.{laidOf, room, cut}
+use Rattle.packet.proofs.ByType.{same-kind}
+use Rattle.packet.proofs.Each.{kinds, each-kind}
+use Rattle.packet.proofs.Good.{rawBy}
 
 -- a content comes back from its numbers, whatever stands after them, and its count
 pub content-back : (c : Content) (rest body : List ℕ) → contentOf (kindFor c) (numbersOf c ++ rest) (countFor c body) ≡ c
@@ -27,18 +39,55 @@ content-back (content.Drill action) rest body = refl
 content-back (content.Text kind set t) rest body = refl
 content-back (content.Hold serial) rest body = refl
 
+-- n numbers of xs from the i-th on, 0 past the last
+abbrev pub listed : ℕ → ℕ → List ℕ → List ℕ
+listed zero i xs = []
+listed (suc n) i xs = getD xs i 0 ∷ listed n (suc i) xs
+
+pub listed-take : (n i : ℕ) (xs : List ℕ) → i + n ≤ length xs → listed n i xs ≡ take n (drop i xs)
+listed-take zero i xs h = refl
+listed-take (suc n) i xs h = ap (λ (l : List ℕ). getD xs i 0 ∷ l) (listed-take n (suc i) xs (omega arith)) ∙ ap (take (suc n)) (sym (drop-cons xs i 0 (omega arith)))
+
+-- a content made of numbers and a count is of its kind, and has these again
+pub parts-back : (f : Kind) (xs : List ℕ) (k : ℕ) → isUnknown f ≡ false → partsOf (contentOf f xs k) ≡ record { kind = f; numbers = listed (numbersIn f) 0 xs; count = countBy (rowOf f .counting) k 0 }
+parts-back Frequencies xs k h = refl
+parts-back Address xs k h = refl
+parts-back Keep xs k h = refl
+parts-back Clock xs k h = refl
+parts-back Reset xs k h = refl
+parts-back Factory xs k h = refl
+parts-back Drill xs k h = refl
+parts-back Text xs k h = refl
+parts-back Hold xs k h = refl
+parts-back Raw xs k h = refl
+parts-back Unknown xs k h = absurd (true≢false h)
+
+pub kind-back : (f : Kind) (xs : List ℕ) (k : ℕ) → isUnknown f ≡ false → kindFor (contentOf f xs k) ≡ f
+kind-back f xs k h = ap (λ (p : Parts). p .kind) (parts-back f xs k h)
+
+pub numbers-back : (f : Kind) (xs : List ℕ) (k : ℕ) → isUnknown f ≡ false → numbersIn f ≤ length xs → numbersOf (contentOf f xs k) ≡ take (numbersIn f) xs
+numbers-back f xs k h l = ap (λ (p : Parts). p .numbers) (parts-back f xs k h) ∙ listed-take (numbersIn f) 0 xs (omega arith)
+
+-- it is of a known kind
+all-known : (xs : List ℕ) (k : ℕ) → all (λ (f : Kind). not (isUnknown (kindFor (contentOf f xs k)))) kinds ≡ true
+unfolding all
+all-known xs k = refl
+
+pub content-known : (c : Content) → rowOf (kindFor c) .counting ≡ counting.Unknown → ⊥
+content-known c h =
+    let g = subst (λ (d : Content). not (isUnknown (kindFor d)) ≡ true) (content-back c [] []) (each-kind _ (all-known (numbersOf c ++ []) (countFor c [])) (kindFor c)) in
+    absurd (true≢false (sym (ap unknownBy h) ∙ not-true (isUnknown (kindFor c)) g))
+
 -- it has as many numbers as its kind
+all-long : (xs : List ℕ) (k : ℕ) → all (λ (f : Kind). eqb (length (numbersOf (contentOf f xs k))) (numbersIn f)) kinds ≡ true
+unfolding all
+all-long xs k = refl
+
+pub length-back : (f : Kind) (xs : List ℕ) (k : ℕ) → length (numbersOf (contentOf f xs k)) ≡ numbersIn f
+length-back f xs k = eqb-true _ _ (each-kind _ (all-long xs k) f)
+
 pub numbers-long : (c : Content) → length (numbersOf c) ≡ numbersIn (kindFor c)
-numbers-long content.Raw = refl
-numbers-long (content.Frequencies k) = refl
-numbers-long (content.Address m) = refl
-numbers-long (content.Keep on period) = refl
-numbers-long (content.Clock year month day hour minute second) = refl
-numbers-long (content.Reset change) = refl
-numbers-long content.Factory = refl
-numbers-long (content.Drill action) = refl
-numbers-long (content.Text kind set t) = refl
-numbers-long (content.Hold serial) = refl
+numbers-long c = ap (λ (d : Content). length (numbersOf d)) (sym (content-back c [] [])) ∙ length-back (kindFor c) (numbersOf c ++ []) (countFor c [])
 
 -- what is repeated: entries, bytes, or nothing
 pub data Repeated : Kind → Type 0 where
@@ -59,32 +108,27 @@ repeated Hold = nothing refl refl (λ k m. refl)
 repeated Raw = octet refl refl
 repeated Unknown = nothing refl refl (λ k m. refl)
 
--- a content is of a known kind
-pub content-known : (c : Content) → rowOf (kindFor c) .counting ≡ counting.Unknown → ⊥
-content-known c h = absurd (true≢false (sym (ap unknownBy h) ∙ known c))
-  where
-    known : (c : Content) → isUnknown (kindFor c) ≡ false
-    known content.Raw = refl
-    known (content.Frequencies k) = refl
-    known (content.Address m) = refl
-    known (content.Keep on period) = refl
-    known (content.Clock year month day hour minute second) = refl
-    known (content.Reset change) = refl
-    known content.Factory = refl
-    known (content.Drill action) = refl
-    known (content.Text kind set t) = refl
-    known (content.Hold serial) = refl
+-- only frequencies have entries, and only raw contents are counted so
+one-type : all (λ (f : Kind). cond (hasEntries f) (eqb (typeOf f) 0) true && cond (rawBy (rowOf f .counting)) (eqb (typeOf f) 4) true) kinds ≡ true
+unfolding all
+one-type = refl
 
--- only frequencies have entries
 pub entries-only : (f : Kind) → hasEntries f ≡ true → f ≡ Frequencies
-entries-only Frequencies h = refl
-entries-only Address h = absurd (true≢false (sym h))
-entries-only Keep h = absurd (true≢false (sym h))
-entries-only Clock h = absurd (true≢false (sym h))
-entries-only Reset h = absurd (true≢false (sym h))
-entries-only Factory h = absurd (true≢false (sym h))
-entries-only Drill h = absurd (true≢false (sym h))
-entries-only Text h = absurd (true≢false (sym h))
-entries-only Hold h = absurd (true≢false (sym h))
-entries-only Raw h = absurd (true≢false (sym h))
-entries-only Unknown h = absurd (true≢false (sym h))
+entries-only f h = same-kind f Frequencies (eqb-true (typeOf f) 0 (sym (if-yes (eqb (typeOf f) 0) true h) ∙ and-left _ _ (each-kind _ one-type f)))
+
+pub raw-only : (f : Kind) → rowOf f .counting ≡ counting.Raw → f ≡ Raw
+raw-only f h = same-kind f Raw (eqb-true (typeOf f) 4 (sym (if-yes (eqb (typeOf f) 4) true (ap rawBy h)) ∙ and-right (cond (hasEntries f) (eqb (typeOf f) 0) true) _ (each-kind _ one-type f)))
+
+-- ---- in code: a content laid out, and numbers cut to the room of their fields
+pub laid-is : (c : Content) (r : Laid) (xs : List ℕ) → r ≡ record { kind = kindFor c; n = length (numbersOf c); numbers = xs; count = partsOf c .count } → xs ≡ padded 6 (numbersOf c) → r ≡ laidOf c
+laid-is c r xs e f = e ∙ ap (λ (l : List ℕ). record { kind = kindFor c; n = length (numbersOf c); numbers = l; count = partsOf c .count }) f
+
+cut-below : (ws xs : List ℕ) (i : ℕ) → i < length ws → getD (cut ws xs) i 0 ≡ getD xs i 0 % room (getD ws i 0)
+unfolding cut
+cut-below [] xs i h = absurd (omega arith)
+cut-below (w ∷ ws) [] i h = sym (zero-mod (room (getD (w ∷ ws) i 0)))
+cut-below (w ∷ ws) (x ∷ xs) zero h = refl
+cut-below (w ∷ ws) (x ∷ xs) (suc i) h = cut-below ws xs i (omega arith)
+
+pub cut-at : (ws xs : List ℕ) (i : ℕ) → ltb i (length ws) ≡ true → getD (cut ws xs) i 0 ≡ getD xs i 0 % room (getD ws i 0)
+cut-at ws xs i h = cut-below ws xs i (ltb-true i (length ws) h)

@@ -4,11 +4,15 @@ mod rows;
 mod table;
 
 ghost use mathlib.Core.Path.{_≡_};
+ghost use mathlib.Core.List.{[], _∷_};
+ghost use Prim.Native.Nat.{_%_};
+ghost use lib.ListN.{getD};
 ghost use Rattle.packet.specs.Table.{kindOf, typeOf, rowOf, code, ending};
-ghost use Rattle.packet.specs.InCode.{Listed, StandsFor};
+ghost use Rattle.packet.specs.InCode.{Listed, StandsFor, laidOf, namedBy};
 ghost use Rattle.packet.specs.Content.{noSuchDay};
 ghost use Rattle.packet.specs.Reading.{sizesOf, isUnknown, hasEntries};
 ghost use Rattle.packet.specs.Writing.{notWritten};
+ghost use Rattle.packet.specs.declared.Kind.the-variants as kind;
 use format::Line;
 
 // The kinds of content (000, tables 3 to 6, 13 to 16 and 18); Raw is carried unopened, Unknown refused.
@@ -94,6 +98,14 @@ pub enum Content {
     Hold {
         serial: u8,
     },
+}
+
+// A content as plain numbers: its kind, how many numbers it has of its own, these and then zeros, and its count.
+pub struct Laid {
+    pub kind: Kind,
+    pub n: usize,
+    pub numbers: [u32; 6],
+    pub count: usize,
 }
 
 // The fields that every packet has, the opened content among them; codes is the count n.
@@ -279,5 +291,133 @@ pub fn no_such_day(c: Content) -> bool
             length: _,
         } => false,
         Content::Hold { serial: _ } => false,
+    }
+}
+
+fn laid_as(kind: Kind, n: usize, numbers: [u32; 6], count: usize) -> Laid
+    ensures { λ r. ⌜ r ≡ record { kind = kind; n = n; numbers = numbers; count = count } ⌝ }
+{
+    Laid {
+        kind: kind,
+        n: n,
+        numbers: numbers,
+        count: count,
+    }
+}
+
+fn six(a: u32, b: u32, c: u32, d: u32, e: u32, f: u32) -> [u32; 6]
+    ensures { λ r. ⌜ r ≡ a ∷ b ∷ c ∷ d ∷ e ∷ f ∷ [] ⌝ }
+{
+    [a, b, c, d, e, f]
+}
+
+// From a content to its numbers: an arm a type.
+pub fn lay(c: Content) -> Laid
+    ensures { λ r. ⌜ r ≡ laidOf c ⌝ }
+{
+    match c {
+        Content::Raw => laid_as(Kind::Raw, 0, six(0, 0, 0, 0, 0, 0), 0),
+        Content::Frequencies { count } => laid_as(
+            Kind::Frequencies,
+            0,
+            six(0, 0, 0, 0, 0, 0),
+            count,
+        ),
+        Content::Address { length } => laid_as(Kind::Address, 0, six(0, 0, 0, 0, 0, 0), length),
+        Content::Keep { on, period } => {
+            laid_as(Kind::Keep, 2, six(on as u32, period as u32, 0, 0, 0, 0), 0)
+        }
+        Content::Clock {
+            year,
+            month,
+            day,
+            hour,
+            minute,
+            second,
+        } => {
+            let numbers = six(
+                year as u32,
+                month as u32,
+                day as u32,
+                hour as u32,
+                minute as u32,
+                second as u32,
+            );
+            laid_as(Kind::Clock, 6, numbers, 0)
+        }
+        Content::Reset { change } => laid_as(Kind::Reset, 1, six(change as u32, 0, 0, 0, 0, 0), 0),
+        Content::Factory => laid_as(Kind::Factory, 0, six(0, 0, 0, 0, 0, 0), 0),
+        Content::Drill { action } => laid_as(Kind::Drill, 1, six(action as u32, 0, 0, 0, 0, 0), 0),
+        Content::Text { kind, set, length } => {
+            laid_as(
+                Kind::Text,
+                2,
+                six(kind as u32, set as u32, 0, 0, 0, 0),
+                length,
+            )
+        }
+        Content::Hold { serial } => laid_as(Kind::Hold, 1, six(serial as u32, 0, 0, 0, 0, 0), 0),
+    }
+}
+
+// The low byte of the number at i, and its two low bytes; 0 past the last.
+fn byte_at(xs: &[u32], i: usize) -> u8
+    ensures { λ r. ⌜ r ≡ getD (now (xs .entry)) i 0 % 256 ⌝ }
+{
+    if i < xs.len() { (xs[i] % 256) as u8 } else { 0 }
+}
+
+fn word_at(xs: &[u32], i: usize) -> u16
+    ensures { λ r. ⌜ r ≡ getD (now (xs .entry)) i 0 % 65536 ⌝ }
+{
+    if i < xs.len() {
+        (xs[i] % 65536) as u16
+    } else {
+        0
+    }
+}
+
+fn clock(xs: &[u32]) -> Content
+    ensures { λ r. ⌜ r ≡ namedBy kind.Clock (now (xs .entry)) 0 ⌝ }
+{
+    Content::Clock {
+        year: word_at(xs, 0),
+        month: byte_at(xs, 1),
+        day: byte_at(xs, 2),
+        hour: byte_at(xs, 3),
+        minute: byte_at(xs, 4),
+        second: byte_at(xs, 5),
+    }
+}
+
+// From numbers to a content: an arm a type. A number that is too large for its field keeps its low bytes.
+pub fn named(f: Kind, numbers: &[u32], count: usize) -> Content
+    ensures { λ r. ⌜ r ≡ namedBy f (now (numbers .entry)) count ⌝ }
+{
+    match f {
+        Kind::Frequencies => Content::Frequencies { count: count },
+        Kind::Address => Content::Address { length: count },
+        Kind::Keep => Content::Keep {
+            on: byte_at(numbers, 0),
+            period: word_at(numbers, 1),
+        },
+        Kind::Clock => clock(numbers),
+        Kind::Reset => Content::Reset {
+            change: byte_at(numbers, 0),
+        },
+        Kind::Factory => Content::Factory,
+        Kind::Drill => Content::Drill {
+            action: byte_at(numbers, 0),
+        },
+        Kind::Text => Content::Text {
+            kind: byte_at(numbers, 0),
+            set: byte_at(numbers, 1),
+            length: count,
+        },
+        Kind::Hold => Content::Hold {
+            serial: byte_at(numbers, 0),
+        },
+        Kind::Raw => Content::Raw,
+        Kind::Unknown => Content::Raw,
     }
 }

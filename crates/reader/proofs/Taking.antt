@@ -3,10 +3,11 @@ use mathlib.Core.Path.{_≡_, refl, sym, ap, ap₂, _∙_, subst}
 use mathlib.Core.List.{List, [], _∷_, _++_}
 use mathlib.Core.Bool.{Bool, true, false, cond, _&&_}
 use Prim.Native.Nat.{ℕ, zero, suc, _+_, _*_, _-_, _^_, _<_, _≤_}
-use native.Mathlib.Nat.{pow-le-pow-right, lt-of-lt-of-le}
+use native.Mathlib.Nat.{pow-le-pow-right, lt-of-lt-of-le, mod-eq-of-lt}
 use native.Mathlib.Numerals.{add-one}
 use native.Mathlib.Omega.{arith}
-use lib.ListN.{length, getD, take, drop, replicate, length-replicate, length-drop, drop-of-length-le}
+use lib.Dec.{leb}
+use lib.ListN.{length, getD, take, drop, replicate, length-append, length-replicate, length-drop, drop-of-length-le}
 use lib.Seq.{sets, length-sets, drop-cons, getD-drop, take-at, drop-append-le}
 use borrow.Author.Tests.{leb-true}
 use Rattle.laws.specs.Bits.{run, bits, Under}
@@ -19,13 +20,16 @@ use Rattle.format.specs.Format.{own, need, decode, flat, sound}
 use Rattle.format.proofs.Tables.{length-flat}
 use Rattle.format.proofs.Sound.{sound-is}
 use Rattle.packet.specs.declared.Kind.{Kind}
-use Rattle.packet.specs.declared.Kind.the-variants.{Frequencies, Address, Keep, Clock, Reset, Factory, Drill, Text, Hold, Raw, Unknown}
+use Rattle.packet.specs.declared.Content.{Content}
+use Rattle.packet.specs.declared.Laid.{Laid}
 use Rattle.packet.specs.Table.{rowOf}
-use Rattle.packet.specs.Content.{contentOf, numbersIn}
+use Rattle.packet.specs.Content.{contentOf, numbersOf, numbersIn}
 use Rattle.packet.specs.Reading.{numbersAt, zeros, padded}
+use Rattle.packet.specs.InCode.{laidOf, widths, room, cut, namedBy}
 use Rattle.packet.proofs.Each.{kinds, each-kind}
 use Rattle.packet.proofs.Good.{good}
-use Rattle.reader.specs.Taking.{ownAt, widths, Held, ofByte, Digits}
+use Rattle.packet.proofs.Contents.{length-back}
+use Rattle.reader.specs.Taking.{ownAt, Held, ofByte, Digits}
 use Rattle.reader.proofs.Rows.{length-zeros}
 
 -- ---- lines taken one after the other
@@ -91,14 +95,20 @@ held-at (t ∷ ts) b p i =
     line true e j = rw e (run-held (bits b) p (t .count) (t .width) (under-spread 8 b) j)
     line false e j = rw e (omega arith)
 
+length-widths : (ts : List Line) → length (widths ts) ≡ need ts
+unfolding widths need
+length-widths [] = refl
+length-widths (t ∷ ts) = length-append (widthsOf t) (widths ts) ∙ ap₂ _+_ (line (t .given) refl) (length-widths ts)
+  where
+    line : (x : Bool) → t .given ≡ x → length (widthsOf t) ≡ own t
+    line true e = rw e (length-replicate (t .count) (t .width))
+    line false e = rw e
+
 byte-at : (ws : List ℕ) (i : ℕ) → all ofByte ws ≡ true → getD ws i 0 ≤ 8
 unfolding all
 byte-at [] i h = omega arith
 byte-at (w ∷ ws) zero h = leb-true w 8 (and-both (ofByte w) (all ofByte ws) h .0)
 byte-at (w ∷ ws) (suc i) h = byte-at ws i (and-both (ofByte w) (all ofByte ws) h .1)
-
-pub byte-held : (ts : List Line) (xs : List ℕ) (i : ℕ) → Held ts xs → ofByte (getD (widths ts) i 0) ≡ true → getD xs i 0 < 256
-byte-held ts xs i h e = lt-of-lt-of-le (h i) (pow-le-pow-right (omega arith) (leb-true (getD (widths ts) i 0) 8 e))
 
 -- those from the n-th on are bytes where their lines say so
 pub bytes-from : (ts : List Line) (xs : List ℕ) (n : ℕ) → Held ts xs → all ofByte (drop n (widths ts)) ≡ true → Under 256 (drop n xs)
@@ -107,36 +117,34 @@ bytes-from ts xs n h e i =
     let w : getD (widths ts) (n + i) 0 ≤ 8 = rw (← getD-drop n (widths ts) i 0) (byte-at (drop n (widths ts)) i e) in
     rw a (lt-of-lt-of-le (h (n + i)) (pow-le-pow-right (omega arith) w))
 
--- ---- what a computed test finds of every kind: its digits, entries and bytes are bytes
+-- ---- what a computed test finds of every kind: its numbers have two bytes at most, and digits, entries and bytes one
+abbrev ofWord : ℕ → Bool
+ofWord w = leb w 16
+
 abbrev fits : Kind → Bool
-fits f = all ofByte (drop (numbersIn f) (widths (rowOf f .before))) && (all ofByte (widths (rowOf f .after)) && all ofByte (widths (rowOf f .each)))
+fits f = all ofWord (widths (rowOf f .before)) && (all ofByte (drop (numbersIn f) (widths (rowOf f .before))) && (all ofByte (widths (rowOf f .after)) && all ofByte (widths (rowOf f .each))))
 
 all-fit : all fits kinds ≡ true
 unfolding all widths
 all-fit = refl
 
 pub record Bytes (f : Kind) : Type 0 where
+  pub words : all ofWord (widths (rowOf f .before)) ≡ true
   pub digits : all ofByte (drop (numbersIn f) (widths (rowOf f .before))) ≡ true
   pub rest : all ofByte (widths (rowOf f .after)) ≡ true
   pub each : all ofByte (widths (rowOf f .each)) ≡ true
 
 pub bytes-of : (f : Kind) → Bytes f
 bytes-of f =
-    let a = and-both (all ofByte (drop (numbersIn f) (widths (rowOf f .before)))) (all ofByte (widths (rowOf f .after)) && all ofByte (widths (rowOf f .each))) (each-kind fits all-fit f) in
-    let b = and-both (all ofByte (widths (rowOf f .after))) (all ofByte (widths (rowOf f .each))) (a .1) in
-    record { digits = a .0; rest = b .0; each = b .1 }
+    let before = widths (rowOf f .before) in
+    let after = all ofByte (widths (rowOf f .after)) in
+    let each = all ofByte (widths (rowOf f .each)) in
+    let a = and-both (all ofWord before) (all ofByte (drop (numbersIn f) before) && (after && each)) (each-kind fits all-fit f) in
+    let b = and-both (all ofByte (drop (numbersIn f) before)) (after && each) (a .1) in
+    let c = and-both after each (b .1) in
+    record { words = a .0; digits = b .0; rest = c .0; each = c .1 }
 
 -- ---- numbers, then zeros
-zero-at : (m i : ℕ) → _≡_ {A = ℕ} (getD (replicate m 0) i 0) 0
-zero-at zero i = refl
-zero-at (suc m) zero = refl
-zero-at (suc m) (suc i) = zero-at m i
-
-more-at : (xs zs : List ℕ) (i : ℕ) → ((k : ℕ) → getD zs k 0 ≡ 0) → getD (xs ++ zs) i 0 ≡ getD xs i 0
-more-at [] zs i h = h i
-more-at (x ∷ xs) zs zero h = refl
-more-at (x ∷ xs) zs (suc i) h = more-at xs zs i h
-
 padded-is : (m : ℕ) (xs : List ℕ) → length xs ≤ m → padded m xs ≡ xs ++ drop (length xs) (replicate m 0)
 unfolding zeros
 padded-is m xs h =
@@ -144,27 +152,23 @@ padded-is m xs h =
     let k : length z ≡ m = length-replicate m 0 in
     from-front xs z (omega arith)
 
-pub padded-at : (m : ℕ) (xs : List ℕ) (i : ℕ) → length xs ≤ m → getD (padded m xs) i 0 ≡ getD xs i 0
-padded-at m xs i h =
-    ap (λ (l : List ℕ). getD l i 0) (padded-is m xs h)
-    ∙ more-at xs (drop (length xs) (replicate m 0)) i (λ k. getD-drop (length xs) (replicate m 0) k 0 ∙ zero-at m (length xs + k))
-
 pub take-front : (l xs : List ℕ) (w : ℕ) → length xs ≡ w → w ≤ length l → take w (sets l 0 xs) ≡ xs
 take-front l xs w e h = ap (take w) (from-front xs l (omega arith)) ∙ take-at xs (drop (length xs) l) w e
 
 -- ---- a content by its numbers
-pub same-content : (f : Kind) (xs ys : List ℕ) (k : ℕ) → ((i : ℕ) → getD xs i 0 ≡ getD ys i 0) → contentOf f xs k ≡ contentOf f ys k
-same-content Frequencies xs ys k e = refl
-same-content Address xs ys k e = refl
-same-content Keep xs ys k e = rw (e 0, e 1)
-same-content Clock xs ys k e = rw (e 0, e 1, e 2, e 3, e 4, e 5)
-same-content Reset xs ys k e = rw (e 0)
-same-content Factory xs ys k e = refl
-same-content Drill xs ys k e = rw (e 0)
-same-content Text xs ys k e = rw (e 0, e 1)
-same-content Hold xs ys k e = rw (e 0)
-same-content Raw xs ys k e = refl
-same-content Unknown xs ys k e = refl
+-- numbers that fit their lines, whatever stands behind them, are not cut
+cut-held : (ws xs zs : List ℕ) → length xs ≡ length ws → all ofWord ws ≡ true → ((i : ℕ) → getD xs i 0 < 2 ^ getD ws i 0) → cut ws (xs ++ zs) ≡ xs
+unfolding all cut
+cut-held [] [] zs n a h = refl
+cut-held [] (x ∷ xs) zs n a h = absurd (omega arith)
+cut-held (w ∷ ws) [] zs n a h = absurd (omega arith)
+cut-held (w ∷ ws) (x ∷ xs) zs n a h =
+    let b = and-both (ofWord w) (all ofWord ws) a in
+    ap₂ (λ (y : ℕ) (l : List ℕ). y ∷ l) (mod-eq-of-lt (roomy (leb w 8) refl (leb-true w 16 (b .0)))) (cut-held ws xs zs (omega arith) (b .1) (λ i. h (suc i)))
+  where
+    roomy : (t : Bool) → leb w 8 ≡ t → w ≤ 16 → x < room w
+    roomy true e l = rw e (lt-of-lt-of-le (h 0) (pow-le-pow-right (omega arith) (leb-true w 8 e)))
+    roomy false e l = rw e (lt-of-lt-of-le (h 0) (pow-le-pow-right (omega arith) l))
 
 -- the array of a kind's first numbers, taken by the code's lines T
 module _ (f : Kind) (b : List ℕ) (q : ℕ) (T : List Line) (front : List ℕ) (e : T ≡ rowOf f .before) (a : front ≡ padded 41 (numbersAt T b q)) where
@@ -180,14 +184,14 @@ module _ (f : Kind) (b : List ℕ) (q : ℕ) (T : List Line) (front : List ℕ) 
   same-front : front ≡ padded 41 first
   same-front = a ∙ ap (λ (ts : List Line). padded 41 (numbersAt ts b q)) e
 
-  front-at : (i : ℕ) → getD front i 0 ≡ getD first i 0
-  front-at i = ap (λ (l : List ℕ). getD l i 0) same-front ∙ padded-at 41 first i few
+  pub content-front : (k : ℕ) → namedBy f front k ≡ contentOf f first k
+  content-front k =
+      let ts = rowOf f .before in
+      ap (λ (l : List ℕ). contentOf f (cut (widths ts) l) k) (same-front ∙ padded-is 41 first few)
+      ∙ ap (λ (l : List ℕ). contentOf f l k) (cut-held (widths ts) first (drop (length first) (replicate 41 0)) (long-front ∙ sym (length-widths ts)) (bytes-of f .words) (held-at ts b q))
 
-  pub held-front : Held (rowOf f .before) front
-  held-front i = rw (front-at i) (held-at (rowOf f .before) b q i)
-
-  pub content-front : (k : ℕ) → contentOf f front k ≡ contentOf f first k
-  content-front k = same-content f front first k front-at
+  pub numbers-own : (k : ℕ) (c : Content) (l : Laid) → c ≡ namedBy f front k → l ≡ laidOf c → l .n ≡ numbersIn f
+  numbers-own k c l e h = ap (λ (x : Laid). x .n) h ∙ ap (λ (d : Content). length (numbersOf d)) (e ∙ content-front k) ∙ length-back f first k
 
   same-length : length front ≡ 41
   same-length = ap length same-front ∙ length-sets (zeros 41) 0 first ∙ length-zeros 41 (zeros 41) refl

@@ -2,23 +2,19 @@
 use Prim.Native.Nat.{ℕ, _-_, _<_, _≤_, _^_}
 use mathlib.Core.Path.{_≡_}
 use mathlib.Core.Bool.{Bool, true, cond}
-use mathlib.Core.List.{List, [], _∷_, _++_}
+use mathlib.Core.List.{List, []}
 use lib.Dec.{leb}
-use lib.ListN.{length, getD, replicate, take, drop}
+use lib.ListN.{length, getD, take, drop}
 use Rattle.laws.specs.Bits.{run, bits, Under}
 use Rattle.laws.specs.Scan.{all}
 use Rattle.format.specs.declared.Line.{Line}
 use Rattle.format.specs.Format.{size, need, sound}
 use Rattle.packet.specs.declared.Lines.{Lines}
+use Rattle.packet.specs.InCode.{widths}
 
 -- the own numbers of a line that begins at place p
 abbrev pub ownAt : Line → List ℕ → ℕ → List ℕ
 ownAt t b p = cond (t .given) (run (bits b) p (t .count) (t .width)) []
-
--- so many bits has each of the numbers that lines have of their own
-unfoldable pub widths : List Line → List ℕ
-widths [] = []
-widths (t ∷ ts) = cond (t .given) (replicate (t .count) (t .width)) [] ++ widths ts
 
 -- numbers of which none has more bits than its line says
 abbrev pub Held : List Line → List ℕ → Type 0

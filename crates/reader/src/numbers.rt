@@ -2,7 +2,7 @@
 ghost use mathlib.Core.Path.{_≡_};
 ghost use mathlib.Core.Bool.{true};
 ghost use Prim.Native.Nat.{_+_, _<_, _≤_};
-ghost use lib.ListN.{length, getD, set, take, drop};
+ghost use lib.ListN.{length, set, take, drop};
 ghost use lib.Seq.{sets};
 ghost use Rattle.laws.specs.Bits.{Under};
 ghost use Rattle.laws.specs.Scan.{all};
@@ -85,21 +85,6 @@ pub(crate) fn narrow(xs: &[u32], at: usize, n: usize, out: &mut [u8], i: usize)
         put_byte(out, i + j, xs[at + j] as u8);
         j += 1;
     }
-}
-
-// The number at i: of a byte, of two bytes.
-pub(crate) fn small(xs: &[u32], i: usize) -> u8
-    requires { ⌜ getD (now xs) i 0 < 256 ⌝ }
-    ensures { λ r. ⌜ r ≡ getD (now (xs .entry)) i 0 ⌝ }
-{
-    if i < xs.len() { xs[i] as u8 } else { 0 }
-}
-
-pub(crate) fn medium(xs: &[u32], i: usize) -> u16
-    requires { ⌜ getD (now xs) i 0 < 65536 ⌝ }
-    ensures { λ r. ⌜ r ≡ getD (now (xs .entry)) i 0 ⌝ }
-{
-    if i < xs.len() { xs[i] as u16 } else { 0 }
 }
 
 // Rows of lines, n of them, each of s bits and w numbers of at most a byte, from bit p on.

@@ -4,14 +4,13 @@ ghost use mathlib.Core.Bool.{true, cond};
 ghost use mathlib.Core.List.{[], _++_};
 ghost use Prim.Native.Nat.{_+_, _-_, _*_, _<_, _≤_};
 ghost use lib.ListN.{length, take, drop};
-ghost use Rattle.packet.specs.declared.Kind.the-variants as kind;
 ghost use Rattle.laws.specs.Bits.{at, run, bits};
 ghost use Rattle.laws.specs.Scan.{all};
 ghost use Rattle.format.specs.Format.{times, size, sound};
 ghost use Rattle.packet.specs.Table.{rowOf, countIn};
 ghost use Rattle.packet.specs.Content.{contentOf, numbersIn};
 ghost use Rattle.packet.specs.Reading.{typeIn, codesIn, kindIn, contentSize, countOf, partAt, numbersAt, contentIn, digitsIn, zeros, padded, codesOf, bodyIn, hasEntries};
-ghost use Rattle.reader.specs.Taking.{Held, Digits};
+ghost use Rattle.reader.specs.Taking.{Digits};
 use crate::lines;
 use crate::numbers;
 use packet::Content;
@@ -133,109 +132,6 @@ pub(crate) fn bytes_count(b: &[u8]) -> usize
 }
 
 // ---- the content
-// A content, and how many numbers it has of its own: its digits stand behind them.
-pub(crate) struct Numbered {
-    pub(crate) content: Content,
-    pub(crate) n: usize,
-}
-
-// From numbers to a content: an arm a type.
-fn named(f: Kind, xs: &[u32], k: usize) -> Numbered
-    requires { ⌜ Held (rowOf f .before) (now xs) ⌝ }
-    ensures { λ r. ⌜ (r .content ≡ contentOf f (now (xs .entry)) k) × (r .n ≡ numbersIn f) ⌝ }
-{
-    match f {
-        Kind::Frequencies => Numbered {
-            content: Content::Frequencies { count: k },
-            n: 0,
-        },
-        Kind::Address => Numbered {
-            content: Content::Address { length: k },
-            n: 0,
-        },
-        Kind::Keep => {
-            let on = numbers::small(xs, 0);
-            let period = numbers::medium(xs, 1);
-            Numbered {
-                content: Content::Keep {
-                    on: on,
-                    period: period,
-                },
-                n: 2,
-            }
-        }
-        Kind::Clock => {
-            let c = clock(xs);
-            Numbered { content: c, n: 6 }
-        }
-        Kind::Reset => {
-            let change = numbers::small(xs, 0);
-            Numbered {
-                content: Content::Reset { change: change },
-                n: 1,
-            }
-        }
-        Kind::Factory => Numbered {
-            content: Content::Factory,
-            n: 0,
-        },
-        Kind::Drill => {
-            let action = numbers::small(xs, 0);
-            Numbered {
-                content: Content::Drill { action: action },
-                n: 1,
-            }
-        }
-        Kind::Text => {
-            let kind = numbers::small(xs, 0);
-            let set = numbers::small(xs, 1);
-            Numbered {
-                content: Content::Text {
-                    kind: kind,
-                    set: set,
-                    length: k,
-                },
-                n: 2,
-            }
-        }
-        Kind::Hold => {
-            let serial = numbers::small(xs, 0);
-            Numbered {
-                content: Content::Hold { serial: serial },
-                n: 1,
-            }
-        }
-        Kind::Raw => Numbered {
-            content: Content::Raw,
-            n: 0,
-        },
-        Kind::Unknown => Numbered {
-            content: Content::Raw,
-            n: 0,
-        },
-    }
-}
-
-fn clock(xs: &[u32]) -> Content
-    requires { ⌜ Held (rowOf kind.Clock .before) (now xs) ⌝ }
-    ensures { λ r. ⌜ r ≡ contentOf kind.Clock (now (xs .entry)) 0 ⌝ }
-{
-    let year = numbers::medium(xs, 0);
-    let month = numbers::small(xs, 1);
-    let day = numbers::small(xs, 2);
-    let hour = numbers::small(xs, 3);
-    let minute = numbers::small(xs, 4);
-    let second = numbers::small(xs, 5);
-    Content::Clock {
-        year: year,
-        month: month,
-        day: day,
-        hour: hour,
-        minute: minute,
-        second: second,
-    }
-}
-
 // The numbers of lines from bit p on, then zeros.
 fn numbers_at(ts: Lines, b: &[u8], p: usize) -> [u32; 41]
     requires { ⌜ (ts .m ≤ 6) × (all sound (take (ts .m) (ts .all)) ≡ true) × (p < 37000) ⌝ }
@@ -255,9 +151,7 @@ pub(crate) fn content(b: &[u8]) -> Content
     let s = packet::row_of(f);
     let before = s.before;
     let front = numbers_at(before, b, 24 + 96 * n);
-    let c = named(f, &front, k);
-    let content = c.content;
-    content
+    packet::named(f, &front, k)
 }
 
 // Content and digits.
@@ -288,9 +182,9 @@ fn told_at(f: Kind, b: &[u8], q: usize, k: usize) -> Opening
     let after = s.after;
     let front = numbers_at(before, b, q);
     let back = numbers_at(after, b, q + z.lead + k * z.each);
-    let c = named(f, &front, k);
-    let content = c.content;
-    let d = digits_of(&front, c.n, z.first, &back, z.last);
+    let content = packet::named(f, &front, k);
+    let own = packet::lay(content);
+    let d = digits_of(&front, own.n, z.first, &back, z.last);
     Opening {
         content: content,
         digits: d,

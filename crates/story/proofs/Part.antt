@@ -182,6 +182,7 @@ module _ (s : Story) (codes : List ℕ) (y : Lengths s) (own : first (ownCases s
         length-run x 0 (length x / 8) 8 ∙ omega (arith, q, m, t)
 
     pub part-typed : Given s → Under 256 p → k < 9 → n ≤ 9 → Typed (partFields s k p) (partBody n k p)
+    unfolding fine fill
     part-typed z u h g =
         record {
           digits-long = number-long (s .digits) k (y .digits-long);

@@ -32,9 +32,9 @@ use Rattle.trips.proofs.Contents as contents
 use Rattle.trips.proofs.Octets.{octets-at, run-bytes}
 use Rattle.trips.proofs.Taken.{octet-size}
 use Rattle.trips.proofs.Padded.{padded-is, take-padded, rest-zeros, inside-append, wider}
-use Rattle.trips.proofs.EachKind.{kind-of, numbers-back, count-for, places, front-digits, back-digits}
+use Rattle.trips.proofs.EachKind.{count-for, places, front-digits, back-digits}
 use Rattle.packet.proofs.Good.{good}
-use Rattle.packet.proofs.Contents.{Repeated, entries, octet, nothing, repeated, entries-only}
+use Rattle.packet.proofs.Contents.{kind-back, numbers-back, Repeated, entries, octet, nothing, repeated, entries-only}
 use Rattle.trips.proofs.Accepted.{of-count, code-26, ending-26, heading, count-26, settled-table, table-25, digits-of, later-true, only-none, lent-right, body-right, entries-few, entries-count}
 use Rattle.trips.proofs.Fitting.{nil-of}
 use Rattle.trips.proofs.Answers.{read-answer, write-answer}
@@ -42,7 +42,7 @@ use Rattle.trips.specs.Given.{lentCodes, lentBody}
 
 module _ (b : List ℕ) (z : Accepted b) where
   kind-is : kindFor (contentIn b) ≡ kindIn b
-  kind-is = kind-of (kindIn b) (frontIn b) (countOf b) (z .known)
+  kind-is = kind-back (kindIn b) (frontIn b) (countOf b) (z .known)
 
   front-long : length (frontIn b) ≡ need (rowOf (kindIn b) .before)
   unfolding frontIn
@@ -78,7 +78,7 @@ module _ (b : List ℕ) (z : Accepted b) where
   spare-long = length-drop (numbersIn (kindIn b)) (frontIn b) ∙ ap (λ (n : ℕ). n - numbersIn (kindIn b)) front-long
 
   numbers-are : numbersOf (contentIn b) ≡ take (numbersIn (kindIn b)) (frontIn b)
-  numbers-are = numbers-back (kindIn b) (frontIn b) (countOf b) (omega (arith, good (kindIn b) .numbered, front-long))
+  numbers-are = numbers-back (kindIn b) (frontIn b) (countOf b) (z .known) (omega (arith, good (kindIn b) .numbered, front-long))
 
   before-is : digitsBefore (contentIn b) ≡ need (rowOf (kindIn b) .before) - numbersIn (kindIn b)
   before-is =

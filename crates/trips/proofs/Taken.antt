@@ -1,5 +1,5 @@
 -- What it says of fields, codes and a body that a writer answers 0, and how long their parts are. Assumes nothing.
-use mathlib.Core.Path.{_≡_, refl, sym, ap, _∙_}
+use mathlib.Core.Path.{_≡_, refl, sym, _∙_}
 use mathlib.Core.List.{List, [], _∷_}
 use mathlib.Core.Bool.{Bool, true, false, not, _&&_, true≢false}
 use Prim.Native.Nat.{ℕ, _+_, _*_, _<_, _≤_}
@@ -11,7 +11,6 @@ use borrow.Author.Tests.{leb-true, eqb-true, ltb-true, ltb-false, not-false, lt-
 use Rattle.laws.specs.Scan.{all}
 use Rattle.laws.proofs.Cases.{and-both, or-both}
 use Rattle.format.specs.Format.{just, octets, size, need, inside, fine, unmet}
-use Rattle.packet.specs.declared.Kind.the-variants.{Unknown}
 use Rattle.packet.specs.declared.Content.{Content}
 use Rattle.packet.specs.declared.Fields.{Fields}
 use Rattle.packet.specs.Table.{kindOf, onlyRead, countLine, code}
@@ -88,10 +87,7 @@ type-small t e = go (ltb t 25) refl
   where
     go : (x : Bool) → ltb t 25 ≡ x → t < 32
     go true h = omega (arith, ltb-true t 25 h)
-    go false h =
-        let n = ltb-false t 25 h in
-        let z : Unknown ≡ kindOf t = types.above t record { n0 = λ q. omega arith; n1 = λ q. omega arith; n2 = λ q. omega arith; n3 = λ q. omega arith; n12 = λ q. omega arith; n13 = λ q. omega arith; n14 = λ q. omega arith; n15 = λ q. omega arith; n16 = λ q. omega arith; n21 = λ q. omega arith; n11 = λ q. omega arith } n in
-        absurd (true≢false (sym (ap isUnknown (sym z)) ∙ e))
+    go false h = absurd (true≢false (sym (types.unknown-above t (ltb-false t 25 h)) ∙ e))
 
 -- what is lent is what the content counts
 pub lent-long : (c : Content) (body : List ℕ) → lentBad (rowFor c .counting) (countFor c body) (need (rowFor c .each)) (length body) ≡ false → bodyLost (rowFor c .counting) (length body) ≡ false → length body ≡ countFor c body * need (rowFor c .each)

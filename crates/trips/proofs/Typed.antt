@@ -2,12 +2,12 @@
 use mathlib.Core.Path.{_≡_, refl, sym, ap, _∙_}
 use mathlib.Core.List.{List, [], _∷_, _++_, append-assoc}
 use mathlib.Core.Bool.{Bool, true, false, _&&_, cond}
-use Prim.Native.Nat.{ℕ, suc, _*_, _<_}
+use Prim.Native.Nat.{ℕ, suc, _*_, _<_, _≤_}
 use native.Mathlib.Omega.{arith}
-use lib.ListN.{length, take, drop, replicate, length-append}
-use lib.Seq.{take-all, drop-at}
-use lib.Dec.{eqb}
-use borrow.Author.Tests.{eqb-true, le-leb}
+use lib.ListN.{length, take, drop, replicate, length-append, length-drop}
+use lib.Seq.{take-all, drop-at, take-append-le, drop-append-le}
+use lib.Dec.{leb, eqb}
+use borrow.Author.Tests.{eqb-true, le-leb, leb-true, not-true}
 use Rattle.laws.specs.Bits.{at}
 use Rattle.laws.specs.Scan.{all}
 use Rattle.laws.proofs.Bits.{Under, under-take, under-drop}
@@ -16,17 +16,42 @@ use Rattle.format.specs.declared.Line.{Line}
 use Rattle.format.specs.Format.{times, own, need, fill, inside, lineOk, fine, unmet}
 use Rattle.format.proofs.Tables.{unmet-fine, all-times}
 use Rattle.packet.specs.declared.Content.{Content}
-use Rattle.packet.specs.declared.Content.the-variants as content
 use Rattle.packet.specs.declared.Fields.{Fields}
 use Rattle.packet.specs.Table.{contentLines, code, ending, packet}
 use Rattle.packet.specs.Content.{countFor}
-use Rattle.packet.specs.Writing.{rowFor, frontFor, backFor, bodyFor, sizeFor, tableFor, numbersFor, valuesFor}
+use Rattle.packet.specs.Writing.{rowFor, digitsBefore, frontFor, backFor, bodyFor, sizeFor, tableFor, numbersFor, valuesFor}
 use Rattle.trips.proofs.Contents as contents
-use Rattle.trips.proofs.Contents.{byteLine}
-use Rattle.packet.specs.Content.{kindFor}
+use Rattle.trips.proofs.Contents.{byteLine, behind}
+use Rattle.packet.specs.Content.{kindFor, numbersOf}
+use Rattle.packet.proofs.Contents.{numbers-long}
 use Rattle.trips.specs.Given.{held, Typed}
 use Rattle.trips.proofs.Parts as parts
 use Rattle.trips.proofs.Taken.{Taken, Fitted, lent-long, front-long, back-long, whole-body, code-unmet}
+
+-- lines that are fine with numbers xs are so with more behind them, where no line behind xs is of account
+more-fine : (ts : List Line) (xs ds : List ℕ) → behind (unmet 0) (length xs) ts ≡ true → fine 0 ts (fill ts xs) ≡ true → fine 0 ts (fill ts (xs ++ ds)) ≡ true
+unfolding fine fill behind
+more-fine [] xs ds g h = refl
+more-fine (t ∷ ts) xs ds g h = part (leb (own t) (length xs)) refl (and-both _ _ h) (more-fine ts (drop (own t) xs) ds)
+  where
+    own-of : List ℕ → List ℕ
+    own-of ys = cond (t .given) (take (t .count) ys) (replicate (t .count) (t .lo))
+
+    same : (b : Bool) → t .given ≡ b → own t ≤ length xs → own-of (xs ++ ds) ≡ own-of xs
+    same true e l = rw e (take-append-le (t .count) xs ds (rw e at l))
+    same false e l = rw e
+
+    part : (b : Bool) → leb (own t) (length xs) ≡ b → (lineOk 0 t (own-of xs) ≡ true) × (fine 0 ts (fill ts (drop (own t) xs)) ≡ true)
+        → (behind (unmet 0) (length (drop (own t) xs)) ts ≡ true → fine 0 ts (fill ts (drop (own t) xs)) ≡ true → fine 0 ts (fill ts (drop (own t) xs ++ ds)) ≡ true)
+        → (lineOk 0 t (own-of (xs ++ ds)) && fine 0 ts (fill ts (drop (own t) (xs ++ ds)))) ≡ true
+    part true e a ih =
+        let l = leb-true (own t) (length xs) e in
+        and-yes _ (ap (lineOk 0 t) (same (t .given) refl l) ∙ a .0)
+        ∙ ap (λ (ys : List ℕ). fine 0 ts (fill ts ys)) (drop-append-le (own t) xs ds l)
+        ∙ ih (ap (λ (m : ℕ). behind (unmet 0) m ts) (length-drop (own t) xs) ∙ sym (if-yes _ _ e) ∙ g) (a .1)
+    part false e a ih =
+        let u = and-both (unmet 0 t) (all (unmet 0) ts) (sym (if-no _ _ e) ∙ g) in
+        and-yes _ (if-no (inside (t .lo) (t .hi) (own-of (xs ++ ds))) true (not-true (eqb (t .answer) 0) (u .0))) ∙ unmet-fine 0 ts (fill ts (drop (own t) (xs ++ ds))) (u .1)
 
 bytes-inside : (v : List ℕ) → Under 256 v → inside 0 255 v ≡ true
 unfolding inside
@@ -50,17 +75,9 @@ fine-bytes (t ∷ ts) xs h u =
         ∙ rw (eqb-true (t .lo) 0 (g2 .0), eqb-true (t .hi) 255 (g3 .0), g3 .1) (bytes-inside (take (t .count) xs) (under-take 256 (t .count) xs u))
 
 front-held : (c : Content) (ds : List ℕ) → held c ≡ true → fine 0 (rowFor c .before) (fill (rowFor c .before) (frontFor c ds)) ≡ true
-unfolding fine fill frontFor inside need
-front-held content.Raw ds h = refl
-front-held (content.Frequencies k) ds h = refl
-front-held (content.Address m) ds h = refl
-front-held (content.Keep on period) ds h = rw (le-leb 0 period (omega arith), h)
-front-held (content.Clock year month day hour minute second) ds h = rw (le-leb 0 year (omega arith), h)
-front-held (content.Reset change) ds h = refl
-front-held content.Factory ds h = refl
-front-held (content.Drill action) ds h = refl
-front-held (content.Text kind set t) ds h = refl
-front-held (content.Hold serial) ds h = rw (le-leb 0 serial (omega arith), h)
+unfolding frontFor
+front-held c ds h =
+    more-fine (rowFor c .before) (numbersOf c) (take (digitsBefore c) ds) (ap (λ (n : ℕ). behind (unmet 0) n (rowFor c .before)) (numbers-long c) ∙ contents.fair (kindFor c) .untested) h
 
 ending-held : (x : ℕ) (y s : List ℕ) → x < 4294967296 → length y ≡ 12 → length s ≡ 64 → Under 256 s → fine 0 ending (fill ending (x ∷ (y ++ s))) ≡ true
 unfolding fine fill inside

@@ -5,29 +5,20 @@ use mathlib.Core.List.{List, []}
 use mathlib.Core.Bool.{Bool, true, cond}
 use Prim.Native.Nat.{ℕ, _-_, _*_, _<_}
 use lib.ListN.{length, take, drop}
-use lib.Dec.{leb, eqb}
+use lib.Dec.{eqb}
 use Rattle.laws.specs.Bits.{Under}
+use Rattle.format.specs.Format.{fill, fine}
 use Rattle.packet.specs.declared.Content.{Content}
-use Rattle.packet.specs.declared.Content.the-variants as content
 use Rattle.packet.specs.declared.Fields.{Fields}
 use Rattle.packet.specs.declared.Opened.{Opened}
-use Rattle.packet.specs.Content.{kindFor, countFor}
+use Rattle.packet.specs.Content.{kindFor, numbersOf, countFor}
 use Rattle.packet.specs.Reading.{zeros, padded, hasEntries, opened, bodyOf, textAnswer, textOf}
-use Rattle.packet.specs.Writing.{written, packetOutput}
+use Rattle.packet.specs.Writing.{rowFor, written, packetOutput}
 
 -- ---- what the types give (ours: the definitions speak of numbers and lists, the compiler gives the rest)
--- the numbers of a content's untested lines, by their types: u16 and u8
+-- the numbers of a content's untested lines have no more bits than the lines, as their types u16 and u8 give
 abbrev pub held : Content → Bool
-held content.Raw = true
-held (content.Frequencies k) = true
-held (content.Address m) = true
-held (content.Keep on period) = leb period 65535
-held (content.Clock year month day hour minute second) = leb year 65535
-held (content.Reset change) = true
-held content.Factory = true
-held (content.Drill action) = true
-held (content.Text kind set t) = true
-held (content.Hold serial) = leb serial 255
+held c = fine 0 (rowFor c .before) (fill (rowFor c .before) (numbersOf c))
 
 -- fields and a body of their types: arrays of their lengths, bytes below 256, a time of 32 bits
 pub record Typed (f : Fields) (body : List ℕ) : Type 0 where

@@ -1,22 +1,19 @@
 -- A content's numbers and the digits behind them, in one array. Assumes nothing.
-use mathlib.Core.Path.{_≡_, sym, ap, ap₂, _∙_, subst}
+use mathlib.Core.Path.{_≡_, refl, sym, ap, ap₂, _∙_, subst}
 use mathlib.Core.List.{List, [], _∷_, _++_, append-nil, append-assoc}
 use Prim.Native.Nat.{ℕ, suc, _+_, _<_, _≤_}
 use native.Mathlib.Numerals.{add-one}
 use native.Mathlib.Omega.{arith}
-use lib.ListN.{length, getD, set, take, length-set}
-use lib.Seq.{take-take, take-suc, take-suc-set, take-all}
+use lib.ListN.{length, getD, set, take, drop, replicate, length-set}
+use lib.Seq.{take-take, take-suc, take-suc-set, take-all, take-at}
 use Rattle.packet.specs.declared.Content.{Content}
-use Rattle.packet.specs.declared.Kind.{Kind}
-use Rattle.packet.specs.Content.{partsOf, kindFor, numbersOf}
-use Rattle.writer.specs.declared.content.Laid.{Laid}
-use Rattle.writer.specs.Laying.{LaidOut}
-use Rattle.writer.specs.Puts.{Numbered, Fronted}
-
--- six numbers are enough for any content
-pub numbered-by : (c : Content) (r l : List ℕ) → take 6 r ≡ l → length r ≡ 41 → take (length (numbersOf c)) l ≡ numbersOf c → length (numbersOf c) ≤ 6 → Numbered c r
-numbered-by c r l e n f h =
-    record { numbers = sym (take-take (length (numbersOf c)) 6 r h) ∙ ap (take (length (numbersOf c))) e ∙ f; long = n }
+use Rattle.packet.specs.declared.Laid.{Laid}
+use Rattle.packet.specs.Content.{numbersOf}
+use Rattle.packet.specs.Reading.{zeros, padded}
+use Rattle.packet.specs.InCode.{laidOf}
+use Rattle.laws.proofs.Writes.{from-front}
+use Rattle.writer.specs.Puts.{Fronted}
+use Rattle.writer.proofs.Contents.{numbers-fit}
 
 -- the loop over the digits
 pub record Going (numbers : List ℕ) (n : ℕ) (ds all : List ℕ) (j : ℕ) : Type 0 where
@@ -50,15 +47,18 @@ going-last numbers n ds all j g h d =
     let e : j ≡ 35 = omega arith in
     ((rw e at (g .front)) ∙ ap (λ (x : List ℕ). take n numbers ++ x) (take-all 35 ds (omega arith)), g .long)
 
-pub fronted : (c : Content) (numbers ds r : List ℕ) (n : ℕ) → Numbered c numbers → n ≡ length (numbersOf c) → (take (n + 35) r ≡ take n numbers ++ ds) × (length r ≡ 41) → Fronted c ds r
-fronted c numbers ds r n h e f =
+pub front-part : (r l : List ℕ) (n : ℕ) → take 6 r ≡ l → n ≤ 6 → take n r ≡ take n l
+front-part r l n e h = sym (take-take n 6 r h) ∙ ap (take n) e
+
+-- six numbers are enough for any content
+six-first : (xs : List ℕ) → length xs ≤ 6 → take (length xs) (padded 6 xs) ≡ xs
+unfolding zeros
+six-first xs h = ap (take (length xs)) (from-front xs (replicate 6 0) h) ∙ take-at xs (drop (length xs) (replicate 6 0)) (length xs) refl
+
+pub fronted : (c : Content) (l : Laid) (ds r : List ℕ) → l ≡ laidOf c → (take (l .n + 35) r ≡ take (l .n) (l .numbers) ++ ds) × (length r ≡ 41) → Fronted c ds r
+fronted c l ds r e f =
+    let xs = numbersOf c in
     record {
-      front = ap (λ (x : ℕ). take (x + 35) r) (sym e) ∙ f .0 ∙ ap (λ (x : List ℕ). x ++ ds) (ap (λ (x : ℕ). take x numbers) e ∙ h .numbers);
+      front = subst (λ (l : Laid). take (l .n + 35) r ≡ take (l .n) (l .numbers) ++ ds) e (f .0) ∙ ap (λ (x : List ℕ). x ++ ds) (six-first xs (numbers-fit c .2));
       long = f .1;
     }
-
--- a content laid out with such numbers
-pub laid-by : (c : Content) (r : Laid) (kind : Kind) (n count : ℕ) (xs l : List ℕ) → (r .kind ≡ kind) × (r .n ≡ n) × (r .numbers ≡ xs) × (r .count ≡ count)
-    → take 6 xs ≡ l → length xs ≡ 41 → kind ≡ kindFor c → n ≡ length (numbersOf c) → take (length (numbersOf c)) l ≡ numbersOf c → length (numbersOf c) ≤ 6 → count ≡ partsOf c .count → LaidOut c r
-laid-by c r kind n count xs l g e m k i f h q =
-    record { kind = g .0 ∙ k; many = g .1 ∙ i; numbers = subst (λ (ys : List ℕ). Numbered c ys) (sym (g .2)) (numbered-by c xs l e m f h); count = g .3 ∙ q }

@@ -1,5 +1,5 @@
 -- What the sizes of a content's row say: its digits, its bytes, its count. Assumes nothing.
-use mathlib.Core.Path.{_≡_, ap, _∙_}
+use mathlib.Core.Path.{_≡_, sym, ap, _∙_}
 use mathlib.Core.Bool.{Bool}
 use Prim.Native.Nat.{ℕ, _+_, _-_, _*_, _/_, _≤_}
 use native.Mathlib.Nat.{le-trans, mul-le-mul-left}
@@ -7,9 +7,11 @@ use native.Mathlib.Omega.{arith}
 use lib.ListN.{length}
 use Rattle.format.specs.Format.{need}
 use Rattle.packet.specs.declared.Content.{Content}
+use Rattle.packet.specs.declared.Laid.{Laid}
 use Rattle.packet.specs.declared.Sizes.{Sizes}
 use Rattle.packet.specs.declared.Counting.{Counting}
-use Rattle.packet.specs.Table.{contentBytes}
+use Rattle.packet.specs.Table.{contentBytes, rowOf, countBy}
+use Rattle.packet.specs.InCode.{laidOf}
 use Rattle.packet.specs.Content.{kindFor, numbersOf}
 use Rattle.packet.specs.Reading.{sizesOf}
 use Rattle.packet.specs.Writing.{rowFor, digitsBefore, digitsAfter, lentBad}
@@ -53,3 +55,7 @@ module _ (c : Content) (z : Sizes) (e : z ≡ sizesOf (kindFor c)) where
     -- its count against what is lent
     pub bad-by : (b : Bool) (s : Counting) → rowFor c .counting ≡ s → b ≡ lentBad s k (z .row) lent → b ≡ lentBad (rowFor c .counting) (countLent c lent) (need (rowFor c .each)) lent
     bad-by b s h f = f ∙ rw (q, row-is, ← h)
+
+-- its count, by the numbers that it is laid out as
+pub counted : (c : Content) (lent : ℕ) (l : Laid) (s : Counting) → l ≡ laidOf c → rowOf (l .kind) .counting ≡ s → countBy s (l .count) lent ≡ countLent c lent
+counted c lent l s e h = ap (λ (t : Counting). countBy t (l .count) lent) (sym h) ∙ ap (λ (x : Laid). countBy (rowOf (x .kind) .counting) (x .count) lent) e

@@ -42,12 +42,7 @@ pub record Rows (ts : Lines) (n w : ℕ) (xs : List ℕ) (p : ℕ) : Type 0 wher
   pub numbers : length xs ≡ n * w
   pub place : p < 3000
 
--- the content's numbers stand first
-pub record Numbered (c : Content) (r : List ℕ) : Type 0 where
-  pub numbers : take (length (numbersOf c)) r ≡ numbersOf c
-  pub long : length r ≡ 41
-
--- and its digits behind them
+-- the content's numbers stand first, and its digits behind them
 pub record Fronted (c : Content) (ds r : List ℕ) : Type 0 where
   pub front : take (length (numbersOf c) + 35) r ≡ numbersOf c ++ ds
   pub long : length r ≡ 41

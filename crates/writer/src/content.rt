@@ -1,107 +1,23 @@
 // A content put into bits: its numbers and digits, its count, its body.
 ghost use mathlib.Core.Path.{_≡_};
-ghost use mathlib.Core.List.{[], _∷_, _++_};
+ghost use mathlib.Core.List.{_++_};
 ghost use Prim.Native.Nat.{_+_, _<_, _≤_};
 ghost use lib.ListN.{length, take};
 ghost use Rattle.packet.specs.Content.{kindFor};
 ghost use Rattle.format.specs.Format.{size};
 ghost use Rattle.packet.specs.Writing.{rowFor, digitsBefore, digitsAfter};
 ghost use Rattle.writer.specs.Puts.{After, Fronted, countLent};
-ghost use Rattle.writer.specs.Laying.{LaidOut};
 ghost use Rattle.writer.specs.Parts.{frontBits, frontSize, bodyBits, bodySize, backBits, contentBits, contentSize, Lent};
 use crate::puts;
 use packet::Content;
 use packet::Counting;
 use packet::Kind;
 
-// A content laid out: its kind, how many numbers it has, the numbers, and its count.
-pub(crate) struct Laid {
-    pub(crate) kind: Kind,
-    pub(crate) n: usize,
-    pub(crate) numbers: [u32; 41],
-    pub(crate) count: usize,
-}
-
-// Six numbers, then zeros.
-fn six(a: u32, b: u32, c: u32, d: u32, e: u32, f: u32) -> [u32; 41]
-    ensures { λ r. ⌜ (take 6 r ≡ a ∷ b ∷ c ∷ d ∷ e ∷ f ∷ []) × (length r ≡ 41) ⌝ }
-{
-    let mut all = [0u32; 41];
-    all[0] = a;
-    all[1] = b;
-    all[2] = c;
-    all[3] = d;
-    all[4] = e;
-    all[5] = f;
-    all
-}
-
-fn laid_as(kind: Kind, n: usize, numbers: [u32; 41], count: usize) -> Laid
-    ensures { λ r. ⌜ (r .kind ≡ kind) × (r .n ≡ n) × (r .numbers ≡ numbers) × (r .count ≡ count) ⌝ }
-{
-    Laid {
-        kind: kind,
-        n: n,
-        numbers: numbers,
-        count: count,
-    }
-}
-
-// From a content to its numbers: an arm a type.
-fn lay(c: Content) -> Laid
-    ensures { λ r. ⌜ LaidOut c r ⌝ }
-{
-    match c {
-        Content::Raw => laid_as(Kind::Raw, 0, six(0, 0, 0, 0, 0, 0), 0),
-        Content::Frequencies { count } => {
-            laid_as(Kind::Frequencies, 0, six(0, 0, 0, 0, 0, 0), count)
-        }
-        Content::Address { length } => laid_as(Kind::Address, 0, six(0, 0, 0, 0, 0, 0), length),
-        Content::Keep { on, period } => {
-            laid_as(Kind::Keep, 2, six(on as u32, period as u32, 0, 0, 0, 0), 0)
-        }
-        Content::Clock {
-            year,
-            month,
-            day,
-            hour,
-            minute,
-            second,
-        } => {
-            let numbers = six(
-                year as u32,
-                month as u32,
-                day as u32,
-                hour as u32,
-                minute as u32,
-                second as u32,
-            );
-            laid_as(Kind::Clock, 6, numbers, 0)
-        }
-        Content::Reset { change } => {
-            laid_as(Kind::Reset, 1, six(change as u32, 0, 0, 0, 0, 0), 0)
-        }
-        Content::Factory => laid_as(Kind::Factory, 0, six(0, 0, 0, 0, 0, 0), 0),
-        Content::Drill { action } => {
-            laid_as(Kind::Drill, 1, six(action as u32, 0, 0, 0, 0, 0), 0)
-        }
-        Content::Text { kind, set, length } => {
-            laid_as(
-                Kind::Text,
-                2,
-                six(kind as u32, set as u32, 0, 0, 0, 0),
-                length,
-            )
-        }
-        Content::Hold { serial } => laid_as(Kind::Hold, 1, six(serial as u32, 0, 0, 0, 0, 0), 0),
-    }
-}
-
 // The kind of a content.
 pub(crate) fn kind_for(c: Content) -> Kind
     ensures { λ r. ⌜ r ≡ kindFor c ⌝ }
 {
-    let l = lay(c);
+    let l = packet::lay(c);
     let kind = l.kind;
     kind
 }
@@ -110,7 +26,7 @@ pub(crate) fn kind_for(c: Content) -> Kind
 pub(crate) fn count_for(c: Content, lent: usize) -> usize
     ensures { λ r. ⌜ r ≡ countLent c lent ⌝ }
 {
-    let l = lay(c);
+    let l = packet::lay(c);
     let kind = l.kind;
     let s = packet::row_of(kind);
     let counting = s.counting;
@@ -126,18 +42,32 @@ pub(crate) fn count_for(c: Content, lent: usize) -> usize
 pub(crate) fn digits_used(c: Content) -> usize
     ensures { λ r. ⌜ (r ≡ digitsBefore c + digitsAfter c) × (r ≤ 35) ⌝ }
 {
-    let l = lay(c);
+    let l = packet::lay(c);
     let kind = l.kind;
     let z = packet::sizes_of(kind);
     z.first - l.n + z.last
 }
 
+// Six numbers, with room for digits behind them.
+fn roomier(numbers: [u32; 6]) -> [u32; 41]
+    ensures { λ r. ⌜ (take 6 r ≡ numbers) × (length r ≡ 41) ⌝ }
+{
+    let mut all = [0u32; 41];
+    all[0] = numbers[0];
+    all[1] = numbers[1];
+    all[2] = numbers[2];
+    all[3] = numbers[3];
+    all[4] = numbers[4];
+    all[5] = numbers[5];
+    all
+}
+
 // The digits behind the first n numbers.
-fn with_digits(numbers: [u32; 41], n: usize, digits: [u8; 35]) -> [u32; 41]
+fn with_digits(numbers: [u32; 6], n: usize, digits: [u8; 35]) -> [u32; 41]
     requires { ⌜ n ≤ 6 ⌝ }
     ensures { λ r. ⌜ (take (n + 35) r ≡ take n numbers ++ digits) × (length r ≡ 41) ⌝ }
 {
-    let mut all = numbers;
+    let mut all = roomier(numbers);
     let mut j: usize = 0;
     while j < 35 {
         all[n + j] = digits[j] as u32;
@@ -150,7 +80,7 @@ fn with_digits(numbers: [u32; 41], n: usize, digits: [u8; 35]) -> [u32; 41]
 pub(crate) fn front_of(c: Content, digits: [u8; 35]) -> [u32; 41]
     ensures { λ r. ⌜ Fronted c digits r ⌝ }
 {
-    let l = lay(c);
+    let l = packet::lay(c);
     let numbers = l.numbers;
     with_digits(numbers, l.n, digits)
 }

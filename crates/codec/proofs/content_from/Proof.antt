@@ -1,51 +1,25 @@
 -- `codec::content_from` meets its contract. Assumes nothing.
-use borrow.Author.Tests.{ne-eqb}
+use mathlib.Core.Path.{ap, _∙_}
+use Rattle.packet.specs.declared.Kind.{Kind}
+use Rattle.packet.specs.InCode.{namedBy}
+use borrow.Author.Needs.{needs}
 use Rattle.codec.proofs.content_from.Statement.{statement}
 use Rattle.codec.proofs.content_from.Tie as tie
 
+kind-of-requires : tie.Need-kind-of-requires
+kind-of-requires c κs = search needs
+
+slice-aggregate-named : tie.Need-slice-aggregate-named
+slice-aggregate-named c = search needs
+
+named-requires : tie.Need-named-requires
+named-requires c κs = search needs
+
 returns : tie.Need-returns
-returns c = rw (c .match .keys1)
-
-returns-2 : tie.Need-returns-2
-returns-2 c = rw (c .match .keys2)
-
-returns-3 : tie.Need-returns-3
-returns-3 c = rw (c .match .keys3)
-
-returns-4 : tie.Need-returns-4
-returns-4 c = rw (c .match .keys4)
-
-returns-5 : tie.Need-returns-5
-returns-5 c = rw (c .match .keys5)
-
-returns-6 : tie.Need-returns-6
-returns-6 c = rw (c .match .keys6)
-
-returns-7 : tie.Need-returns-7
-returns-7 c = rw (c .match .keys7)
-
-returns-8 : tie.Need-returns-8
-returns-8 c = rw (c .match .keys8)
-
-returns-9 : tie.Need-returns-9
-returns-9 c = rw (c .match .keys9)
-
-returns-10 : tie.Need-returns-10
-returns-10 c =
-    let k = c .before .args .c .kind in
-    rw (ne-eqb k 0 (c .match .rest .0 .0 .0 .0 .0 .0 .0 .0 .1), ne-eqb k 1 (c .match .rest .0 .0 .0 .0 .0 .0 .0 .1), ne-eqb k 2 (c .match .rest .0 .0 .0 .0 .0 .0 .1), ne-eqb k 3 (c .match .rest .0 .0 .0 .0 .0 .1), ne-eqb k 12 (c .match .rest .0 .0 .0 .0 .1), ne-eqb k 13 (c .match .rest .0 .0 .0 .1), ne-eqb k 14 (c .match .rest .0 .0 .1), ne-eqb k 15 (c .match .rest .0 .1), ne-eqb k 21 (c .match .rest .1))
+returns c =
+    let p = c .before .before .before .before .args .c in
+    c .named .ensures ∙ ap (λ (f : Kind). namedBy f (p .numbers) (p .count)) (c .before .before .kind-of .ensures)
 
 pub content-from-spec : {M : Type 1} → statement M
 content-from-spec =
-    tie.close
-    (tie.spec
-    returns
-    returns-2
-    returns-3
-    returns-4
-    returns-5
-    returns-6
-    returns-7
-    returns-8
-    returns-9
-    returns-10)
+    tie.close (tie.spec kind-of-requires slice-aggregate-named named-requires returns)

@@ -8,7 +8,7 @@ use Rattle.laws.specs.Scan.{all}
 use Rattle.format.specs.Format.{sound}
 use Rattle.packet.specs.Reading.{frontIn}
 use Rattle.packet.proofs.Good.{good}
-use Rattle.reader.proofs.Taking.{held-front, content-front}
+use Rattle.reader.proofs.Taking.{content-front}
 use borrow.Author.Needs.{needs}
 use Rattle.reader.proofs.parts.content.Statement.{statement}
 use Rattle.reader.proofs.parts.content.Tie as tie
@@ -40,15 +40,13 @@ slice-aggregate-named : tie.Need-slice-aggregate-named
 slice-aggregate-named c = search needs
 
 named-requires : tie.Need-named-requires
-named-requires c κs =
-    let s = c .before .before .before .row-of .result .before in
-    held-front (c .before .before .before .before .kind .result) (now (c .before .before .before .before .before .before .before .before .args .b)) (24 + 96 * c .before .before .before .before .before .before .codes-count .result) (take (s .m) (s .all)) (c .before .numbers-at .result) (c .before .before .before .row-of .ensures .first .lines) (c .before .numbers-at .ensures)
+named-requires c κs = search needs
 
 returns : tie.Need-returns
 unfolding frontIn
 returns c =
     let s = c .before .before .before .before .row-of .result .before in
-    c .named .ensures .0
+    c .named .ensures
     ∙ content-front (c .before .before .before .before .before .kind .result) (now (c .before .before .before .before .before .before .before .before .before .args .b)) (24 + 96 * c .before .before .before .before .before .before .before .codes-count .result) (take (s .m) (s .all)) (c .before .before .numbers-at .result) (c .before .before .before .before .row-of .ensures .first .lines) (c .before .before .numbers-at .ensures) (c .before .before .before .before .before .before .count .result)
     ∙ rw (c .before .before .before .before .before .kind .ensures, c .before .before .before .before .before .before .count .ensures, c .before .before .before .before .before .before .before .codes-count .ensures .0)
 

@@ -10,7 +10,8 @@ use Rattle.format.specs.Format.{sound, size, need, times}
 use Rattle.packet.specs.declared.Sizes.{Sizes}
 use Rattle.packet.specs.Reading.{numbersAt}
 use Rattle.packet.proofs.Good.{good}
-use Rattle.reader.specs.Taking.{widths, ofByte}
+use Rattle.packet.specs.InCode.{widths}
+use Rattle.reader.specs.Taking.{ofByte}
 use Rattle.reader.proofs.Whole as whole
 use Rattle.reader.proofs.Taking.{bytes-of}
 use borrow.Author.Needs.{needs}

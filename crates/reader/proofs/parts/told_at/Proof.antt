@@ -50,10 +50,10 @@ slice-aggregate-named : tie.Need-slice-aggregate-named
 slice-aggregate-named c = search needs
 
 named-requires : tie.Need-named-requires
-named-requires c κs =
-    let a = c .before .before .before .before .before .before .before .before .before .before .args in
-    let s = c .before .before .before .before .before .before .before .before .row-of .result .before in
-    taking.held-front (a .f) (now (a .b)) (a .q) (take (s .m) (s .all)) (c .before .before .before .before .numbers-at .result) (c .before .before .before .before .before .before .before .before .row-of .ensures .first .lines) (c .before .before .before .before .numbers-at .ensures)
+named-requires c κs = search needs
+
+lay-requires : tie.Need-lay-requires
+lay-requires c κs = search needs
 
 slice-aggregate-digits-of : tie.Need-slice-aggregate-digits-of
 slice-aggregate-digits-of c = search needs
@@ -63,29 +63,35 @@ slice-aggregate-digits-of-2 c = search needs
 
 digits-of-requires : tie.Need-digits-of-requires
 digits-of-requires c κs =
-    let a = c .before .before .before .before .before .before .before .before .before .before .before .before .before .args in
-    let s = c .before .before .before .before .before .before .before .before .before .before .before .row-of .result .before in
-    let t = c .before .before .before .before .before .before .before .before .before .before .before .row-of .result .after in
-    let z = c .before .before .before .before .before .before .before .before .before .before .sizes-of .result in
-    let e = c .before .before .before .before .before .before .before .before .before .before .sizes-of .ensures in
-    taking.digits-asked (a .f) (now (a .b)) (a .q) (take (s .m) (s .all)) (c .before .before .before .before .before .before .before .numbers-at .result) (c .before .before .before .before .before .before .before .before .before .before .before .row-of .ensures .first .lines) (c .before .before .before .before .before .before .before .numbers-at .ensures)
-    (a .q + z .lead + a .k * z .each) (take (t .m) (t .all)) (c .before .before .before .before .numbers-at2 .result) (c .before .before .before .before .before .before .before .before .before .before .before .row-of .ensures .last .lines) (c .before .before .before .before .numbers-at2 .ensures)
-    (c .before .before .named .result .n) (z .first) (z .last) (c .before .before .named .ensures .1) (ap (λ (x : Sizes). x .first) e) (ap (λ (x : Sizes). x .last) e)
-
-returns : tie.Need-returns
-returns c =
     let a = c .before .before .before .before .before .before .before .before .before .before .before .before .before .before .args in
     let s = c .before .before .before .before .before .before .before .before .before .before .before .before .row-of .result .before in
     let t = c .before .before .before .before .before .before .before .before .before .before .before .before .row-of .result .after in
     let z = c .before .before .before .before .before .before .before .before .before .before .before .sizes-of .result in
     let e = c .before .before .before .before .before .before .before .before .before .before .before .sizes-of .ensures in
+    let first = c .before .before .before .before .before .before .before .before .before .before .before .before .row-of .ensures .first .lines in
+    let last = c .before .before .before .before .before .before .before .before .before .before .before .before .row-of .ensures .last .lines in
+    let n = taking.numbers-own (a .f) (now (a .b)) (a .q) (take (s .m) (s .all)) (c .before .before .before .before .before .before .before .before .numbers-at .result) first (c .before .before .before .before .before .before .before .before .numbers-at .ensures) (a .k) (c .before .before .before .named .result) (c .before .before .lay .result) (c .before .before .before .named .ensures) (c .before .before .lay .ensures) in
+    taking.digits-asked (a .f) (now (a .b)) (a .q) (take (s .m) (s .all)) (c .before .before .before .before .before .before .before .before .numbers-at .result) first (c .before .before .before .before .before .before .before .before .numbers-at .ensures)
+    (a .q + z .lead + a .k * z .each) (take (t .m) (t .all)) (c .before .before .before .before .before .numbers-at2 .result) last (c .before .before .before .before .before .numbers-at2 .ensures)
+    (c .before .before .lay .result .n) (z .first) (z .last) n (ap (λ (x : Sizes). x .first) e) (ap (λ (x : Sizes). x .last) e)
+
+returns : tie.Need-returns
+returns c =
+    let a = c .before .before .before .before .before .before .before .before .before .before .before .before .before .before .before .args in
+    let s = c .before .before .before .before .before .before .before .before .before .before .before .before .before .row-of .result .before in
+    let t = c .before .before .before .before .before .before .before .before .before .before .before .before .before .row-of .result .after in
+    let z = c .before .before .before .before .before .before .before .before .before .before .before .before .sizes-of .result in
+    let e = c .before .before .before .before .before .before .before .before .before .before .before .before .sizes-of .ensures in
+    let first = c .before .before .before .before .before .before .before .before .before .before .before .before .before .row-of .ensures .first .lines in
+    let last = c .before .before .before .before .before .before .before .before .before .before .before .before .before .row-of .ensures .last .lines in
+    let n = taking.numbers-own (a .f) (now (a .b)) (a .q) (take (s .m) (s .all)) (c .before .before .before .before .before .before .before .before .before .numbers-at .result) first (c .before .before .before .before .before .before .before .before .before .numbers-at .ensures) (a .k) (c .before .before .before .before .named .result) (c .before .before .before .lay .result) (c .before .before .before .before .named .ensures) (c .before .before .before .lay .ensures) in
     let y = whole.sizes (a .f) z e in
     let r : a .q + z .lead + a .k * z .each ≡ a .q + (partAt (rowOf (a .f)) + a .k * size (rowOf (a .f) .each)) = ap₂ (λ (l w : ℕ). a .q + l + a .k * w) (y .lead) (y .each) ∙ omega arith in (
-      c .before .before .before .named .ensures .0 ∙ taking.content-front (a .f) (now (a .b)) (a .q) (take (s .m) (s .all)) (c .before .before .before .before .before .before .before .before .numbers-at .result) (c .before .before .before .before .before .before .before .before .before .before .before .before .row-of .ensures .first .lines) (c .before .before .before .before .before .before .before .before .numbers-at .ensures) (a .k),
+      c .before .before .before .before .named .ensures ∙ taking.content-front (a .f) (now (a .b)) (a .q) (take (s .m) (s .all)) (c .before .before .before .before .before .before .before .before .before .numbers-at .result) first (c .before .before .before .before .before .before .before .before .before .numbers-at .ensures) (a .k),
       c .digits-of .ensures
-          ∙ taking.digits-are (a .f) (now (a .b)) (a .q) (take (s .m) (s .all)) (c .before .before .before .before .before .before .before .before .numbers-at .result) (c .before .before .before .before .before .before .before .before .before .before .before .before .row-of .ensures .first .lines) (c .before .before .before .before .before .before .before .before .numbers-at .ensures)
-          (a .q + z .lead + a .k * z .each) (take (t .m) (t .all)) (c .before .before .before .before .before .numbers-at2 .result) (c .before .before .before .before .before .before .before .before .before .before .before .before .row-of .ensures .last .lines) (c .before .before .before .before .before .numbers-at2 .ensures)
-          (c .before .before .before .named .result .n) (z .first) (z .last) (c .before .before .before .named .ensures .1) (ap (λ (x : Sizes). x .first) e) (ap (λ (x : Sizes). x .last) e)
+          ∙ taking.digits-are (a .f) (now (a .b)) (a .q) (take (s .m) (s .all)) (c .before .before .before .before .before .before .before .before .before .numbers-at .result) first (c .before .before .before .before .before .before .before .before .before .numbers-at .ensures)
+          (a .q + z .lead + a .k * z .each) (take (t .m) (t .all)) (c .before .before .before .before .before .before .numbers-at2 .result) last (c .before .before .before .before .before .before .numbers-at2 .ensures)
+          (c .before .before .before .lay .result .n) (z .first) (z .last) n (ap (λ (x : Sizes). x .first) e) (ap (λ (x : Sizes). x .last) e)
           ∙ ap (λ (x : ℕ). padded 35 (drop (numbersIn (a .f)) (numbersAt (rowOf (a .f) .before) (now (a .b)) (a .q)) ++ numbersAt (rowOf (a .f) .after) (now (a .b)) x)) r,
     )
 
@@ -102,6 +108,7 @@ told-at-spec =
     numbers-at-requires-2
     slice-aggregate-named
     named-requires
+    lay-requires
     slice-aggregate-digits-of
     slice-aggregate-digits-of-2
     digits-of-requires

@@ -1,10 +1,9 @@
--- `writer::content::lay` meets its contract. Assumes nothing.
-use mathlib.Core.Path.{refl}
-use native.Mathlib.Omega.{arith}
-use Rattle.writer.proofs.Front.{laid-by}
+-- `packet::lay` meets its contract. Assumes nothing.
+use Rattle.packet.specs.Reading.{zeros}
+use Rattle.packet.proofs.Contents.{laid-is}
 use borrow.Author.Needs.{needs}
-use Rattle.writer.proofs.content.lay.Statement.{statement}
-use Rattle.writer.proofs.content.lay.Tie as tie
+use Rattle.packet.proofs.lay.Statement.{statement}
+use Rattle.packet.proofs.lay.Tie as tie
 
 enum-told : tie.Need-enum-told
 enum-told c = search needs
@@ -136,34 +135,44 @@ laid-as-requires-10 : tie.Need-laid-as-requires-10
 laid-as-requires-10 c κs = search needs
 
 returns : tie.Need-returns
-returns c = rw (c .before .before .enum-told .given .1) (laid-by _ _ _ _ _ _ _ (c .laid-as .ensures) (c .before .six .ensures .0) (c .before .six .ensures .1) refl refl refl (omega arith) refl)
+unfolding zeros
+returns c = let e = c .before .before .enum-told .given .1 in laid-is (c .before .before .before .before .args .c) _ (c .before .six .result) (rw e (c .laid-as .ensures)) (rw e (c .before .six .ensures))
 
 returns-2 : tie.Need-returns-2
-returns-2 c = rw (c .before .before .before .c .given .1) (laid-by _ _ _ _ _ _ _ (c .laid-as2 .ensures) (c .before .six2 .ensures .0) (c .before .six2 .ensures .1) refl refl refl (omega arith) refl)
+unfolding zeros
+returns-2 c = let e = c .before .before .before .c .given .1 in laid-is (c .before .before .before .before .before .args .c) _ (c .before .six2 .result) (rw e (c .laid-as2 .ensures)) (rw e (c .before .six2 .ensures))
 
 returns-3 : tie.Need-returns-3
-returns-3 c = rw (c .before .before .before .c2 .given .1) (laid-by _ _ _ _ _ _ _ (c .laid-as3 .ensures) (c .before .six3 .ensures .0) (c .before .six3 .ensures .1) refl refl refl (omega arith) refl)
+unfolding zeros
+returns-3 c = let e = c .before .before .before .c2 .given .1 in laid-is (c .before .before .before .before .before .args .c) _ (c .before .six3 .result) (rw e (c .laid-as3 .ensures)) (rw e (c .before .six3 .ensures))
 
 returns-4 : tie.Need-returns-4
-returns-4 c = rw (c .before .before .before .c3 .given .1) (laid-by _ _ _ _ _ _ _ (c .laid-as4 .ensures) (c .before .six4 .ensures .0) (c .before .six4 .ensures .1) refl refl refl (omega arith) refl)
+unfolding zeros
+returns-4 c = let e = c .before .before .before .c3 .given .1 in laid-is (c .before .before .before .before .before .args .c) _ (c .before .six4 .result) (rw e (c .laid-as4 .ensures)) (rw e (c .before .six4 .ensures))
 
 returns-5 : tie.Need-returns-5
-returns-5 c = rw (c .before .before .before .c4 .given .1) (laid-by _ _ _ _ _ _ _ (c .laid-as5 .ensures) (c .before .six5 .ensures .0) (c .before .six5 .ensures .1) refl refl refl (omega arith) refl)
+unfolding zeros
+returns-5 c = let e = c .before .before .before .c4 .given .1 in laid-is (c .before .before .before .before .before .args .c) _ (c .before .six5 .result) (rw e (c .laid-as5 .ensures)) (rw e (c .before .six5 .ensures))
 
 returns-6 : tie.Need-returns-6
-returns-6 c = rw (c .before .before .before .c5 .given .1) (laid-by _ _ _ _ _ _ _ (c .laid-as6 .ensures) (c .before .six6 .ensures .0) (c .before .six6 .ensures .1) refl refl refl (omega arith) refl)
+unfolding zeros
+returns-6 c = let e = c .before .before .before .c5 .given .1 in laid-is (c .before .before .before .before .before .args .c) _ (c .before .six6 .result) (rw e (c .laid-as6 .ensures)) (rw e (c .before .six6 .ensures))
 
 returns-7 : tie.Need-returns-7
-returns-7 c = rw (c .before .before .enum-told2 .given .1) (laid-by _ _ _ _ _ _ _ (c .laid-as7 .ensures) (c .before .six7 .ensures .0) (c .before .six7 .ensures .1) refl refl refl (omega arith) refl)
+unfolding zeros
+returns-7 c = let e = c .before .before .enum-told2 .given .1 in laid-is (c .before .before .before .before .args .c) _ (c .before .six7 .result) (rw e (c .laid-as7 .ensures)) (rw e (c .before .six7 .ensures))
 
 returns-8 : tie.Need-returns-8
-returns-8 c = rw (c .before .before .before .c6 .given .1) (laid-by _ _ _ _ _ _ _ (c .laid-as8 .ensures) (c .before .six8 .ensures .0) (c .before .six8 .ensures .1) refl refl refl (omega arith) refl)
+unfolding zeros
+returns-8 c = let e = c .before .before .before .c6 .given .1 in laid-is (c .before .before .before .before .before .args .c) _ (c .before .six8 .result) (rw e (c .laid-as8 .ensures)) (rw e (c .before .six8 .ensures))
 
 returns-9 : tie.Need-returns-9
-returns-9 c = rw (c .before .before .before .c7 .given .1) (laid-by _ _ _ _ _ _ _ (c .laid-as9 .ensures) (c .before .six9 .ensures .0) (c .before .six9 .ensures .1) refl refl refl (omega arith) refl)
+unfolding zeros
+returns-9 c = let e = c .before .before .before .c7 .given .1 in laid-is (c .before .before .before .before .before .args .c) _ (c .before .six9 .result) (rw e (c .laid-as9 .ensures)) (rw e (c .before .six9 .ensures))
 
 returns-10 : tie.Need-returns-10
-returns-10 c = rw (c .before .before .before .c8 .given .1) (laid-by _ _ _ _ _ _ _ (c .laid-as10 .ensures) (c .before .six10 .ensures .0) (c .before .six10 .ensures .1) refl refl refl (omega arith) refl)
+unfolding zeros
+returns-10 c = let e = c .before .before .before .c8 .given .1 in laid-is (c .before .before .before .before .before .args .c) _ (c .before .six10 .result) (rw e (c .laid-as10 .ensures)) (rw e (c .before .six10 .ensures))
 
 pub lay-spec : {M : Type 1} → statement M
 lay-spec =
