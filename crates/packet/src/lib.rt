@@ -1,17 +1,12 @@
 // The packet of GY/T 390-2023, clause 6.1: what its fields are called, and its table of contents.
-mod measures;
-mod rows;
-mod table;
 
 ghost use mathlib.Core.Path.{_≡_};
 ghost use mathlib.Core.List.{[], _∷_};
 ghost use Prim.Native.Nat.{_%_};
 ghost use lib.ListN.{getD};
-ghost use Rattle.packet.specs.Table.{kindOf, typeOf, rowOf, code, ending};
-ghost use Rattle.packet.specs.InCode.{Listed, StandsFor, laidOf, namedBy};
+ghost use Rattle.packet.specs.Table.{kindOf, typeOf};
+ghost use Rattle.packet.specs.InCode.{laidOf, namedBy};
 ghost use Rattle.packet.specs.Content.{noSuchDay};
-ghost use Rattle.packet.specs.Reading.{sizesOf, isUnknown, hasEntries};
-ghost use Rattle.packet.specs.Writing.{notWritten};
 ghost use Rattle.packet.specs.declared.Kind.the-variants as kind;
 use format::Line;
 
@@ -172,97 +167,6 @@ pub fn type_of(f: Kind) -> u8
         Kind::Raw => 4,
         Kind::Unknown => 31,
     }
-}
-
-// A resource code, and what follows the content.
-pub fn code_lines() -> Lines
-    ensures { λ r. ⌜ Listed r code ⌝ }
-{
-    rows::two_lines(rows::a_ones(4, 15), rows::a_digits(23))
-}
-
-pub fn ending_lines() -> Lines
-    ensures { λ r. ⌜ Listed r ending ⌝ }
-{
-    rows::three_lines(
-        rows::an_any(32, 4294967295),
-        rows::a_digits(12),
-        rows::an_octets(64),
-    )
-}
-
-// The row of a kind in the table of contents.
-pub fn row_of(f: Kind) -> RowLines
-    ensures { λ r. ⌜ StandsFor r (rowOf f) ⌝ }
-{
-    match f {
-        Kind::Frequencies => table::frequencies(),
-        Kind::Address => table::address(),
-        Kind::Keep => table::keep(),
-        Kind::Clock => table::clock(),
-        Kind::Reset => table::reset(),
-        Kind::Factory => table::factory(),
-        Kind::Drill => table::drill(),
-        Kind::Text => table::text(),
-        Kind::Hold => table::hold(),
-        Kind::Raw => table::raw(),
-        Kind::Unknown => table::unknown(),
-    }
-}
-
-// The sizes of a kind's row.
-pub fn sizes_of(f: Kind) -> Sizes
-    ensures { λ r. ⌜ r ≡ sizesOf f ⌝ }
-{
-    let s = row_of(f);
-    let counting = s.counting;
-    let before = s.before;
-    let each = s.each;
-    let after = s.after;
-    let a = measures::of_lines(before);
-    let e = measures::of_lines(each);
-    let z = measures::of_lines(after);
-    Sizes {
-        lead: a.bits + measures::count_bits(counting),
-        each: e.bits,
-        rest: z.bits,
-        first: a.numbers,
-        row: e.numbers,
-        last: z.numbers,
-    }
-}
-
-// A kind that is neither opened nor carried.
-pub fn is_unknown(f: Kind) -> bool
-    ensures { λ r. ⌜ r ≡ isUnknown f ⌝ }
-{
-    let s = row_of(f);
-    let counting = s.counting;
-    match counting {
-        Counting::Fixed => false,
-        Counting::Counted => false,
-        Counting::Raw => false,
-        Counting::Unknown => true,
-    }
-}
-
-// A type that a writer refuses: 16, which is only read since the licence ended, and what no reader takes.
-pub fn not_written(t: u8) -> bool
-    ensures { λ r. ⌜ r ≡ notWritten t ⌝ }
-{
-    if t == 16 {
-        return true;
-    }
-    is_unknown(kind_of(t))
-}
-
-// A kind with entries: each of its rows has several lines.
-pub fn has_entries(f: Kind) -> bool
-    ensures { λ r. ⌜ r ≡ hasEntries f ⌝ }
-{
-    let s = row_of(f);
-    let each = s.each;
-    1 < each.m
 }
 
 // A clock that names a day which its month doesn't have.

@@ -80,8 +80,8 @@ fn count_in(f: Kind, b: &[u8], q: usize, m: usize) -> usize
     requires { ⌜ q < 30000 ⌝ }
     ensures { λ r. ⌜ r ≡ countIn (rowOf f) (bits (now (b .entry))) q m ⌝ }
 {
-    let s = packet::row_of(f);
-    let z = packet::sizes_of(f);
+    let s = table::row_of(f);
+    let z = table::sizes_of(f);
     let counting = s.counting;
     match counting {
         Counting::Fixed => 0,
@@ -116,7 +116,7 @@ pub(crate) fn text_length(b: &[u8]) -> usize
 pub(crate) fn lead(b: &[u8]) -> usize
     ensures { λ r. ⌜ (r ≡ partAt (rowOf (kindIn (now (b .entry))))) × (r ≤ 160) ⌝ }
 {
-    let z = packet::sizes_of(kind(b));
+    let z = table::sizes_of(kind(b));
     z.lead
 }
 
@@ -124,7 +124,7 @@ pub(crate) fn lead(b: &[u8]) -> usize
 pub(crate) fn bytes_count(b: &[u8]) -> usize
     ensures { λ r. ⌜ r ≡ cond (hasEntries (kindIn (now (b .entry)))) 0 (countOf (now (b .entry))) ⌝ }
 {
-    if packet::has_entries(kind(b)) {
+    if table::has_entries(kind(b)) {
         0
     } else {
         count(b)
@@ -148,7 +148,7 @@ pub(crate) fn content(b: &[u8]) -> Content
     let n = codes_count(b);
     let k = count(b);
     let f = kind(b);
-    let s = packet::row_of(f);
+    let s = table::row_of(f);
     let before = s.before;
     let front = numbers_at(before, b, 24 + 96 * n);
     packet::named(f, &front, k)
@@ -176,8 +176,8 @@ fn told_at(f: Kind, b: &[u8], q: usize, k: usize) -> Opening
     requires { ⌜ (q < 25000) × (k < 256) ⌝ }
     ensures { λ r. ⌜ (r .content ≡ contentOf f (numbersAt (rowOf f .before) (now (b .entry)) q) k) × (r .digits ≡ padded 35 (drop (numbersIn f) (numbersAt (rowOf f .before) (now (b .entry)) q) ++ numbersAt (rowOf f .after) (now (b .entry)) (q + (partAt (rowOf f) + k * size (rowOf f .each))))) ⌝ }
 {
-    let s = packet::row_of(f);
-    let z = packet::sizes_of(f);
+    let s = table::row_of(f);
+    let z = table::sizes_of(f);
     let before = s.before;
     let after = s.after;
     let front = numbers_at(before, b, q);
@@ -224,8 +224,8 @@ fn entries_in(f: Kind, b: &[u8], p: usize, k: usize) -> [u8; 272]
     requires { ⌜ (p < 25000) × (k < 256) ⌝ }
     ensures { λ r. ⌜ r ≡ padded 272 (numbersAt (times k (rowOf f .each)) (now (b .entry)) p) ⌝ }
 {
-    let s = packet::row_of(f);
-    let z = packet::sizes_of(f);
+    let s = table::row_of(f);
+    let z = table::sizes_of(f);
     let each = s.each;
     let mut out = zeros272();
     numbers::take_rows(each, z.each, z.row, k, b, p, &mut out);
@@ -237,7 +237,7 @@ pub(crate) fn entries(b: &[u8]) -> [u8; 272]
     ensures { λ r. ⌜ r ≡ padded 272 (cond (hasEntries (kindIn (now (b .entry)))) (bodyIn (now (b .entry))) []) ⌝ }
 {
     let f = kind(b);
-    if packet::has_entries(f) {
+    if table::has_entries(f) {
         let n = codes_count(b);
         let k = count(b);
         entries_in(f, b, 24 + 96 * n + lead(b), k)

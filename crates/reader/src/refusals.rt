@@ -37,7 +37,7 @@ fn length_bad(b: &[u8]) -> bool
     let f = parts::kind(b);
     let k = parts::count(b);
     let m = parts::content_size(b);
-    let z = packet::sizes_of(f);
+    let z = table::sizes_of(f);
     z.lead + k * z.each + z.rest != 8 * m
 }
 
@@ -46,11 +46,11 @@ fn content_fine(a: u8, f: Kind, k: usize, b: &[u8], q: usize) -> bool
     requires { ⌜ (a ≡ 26 → ⊥) × (k < 256) × (q < 2000) ⌝ }
     ensures { λ r. ⌜ r ≡ fine a (contentLines (rowOf f) k) (decode (contentLines (rowOf f) k) (bits (now (b .entry))) q) ⌝ }
 {
-    let s = packet::row_of(f);
+    let s = table::row_of(f);
     let before = s.before;
     let each = s.each;
     let after = s.after;
-    let z = packet::sizes_of(f);
+    let z = table::sizes_of(f);
     let p = q + z.lead;
     if !lines::lines_fine(a, before, b, q) {
         return false;
@@ -66,8 +66,8 @@ fn frame_fine(a: u8, n: usize, b: &[u8], e: usize) -> bool
     requires { ⌜ (n < 15) × (e < 2000) ⌝ }
     ensures { λ r. ⌜ r ≡ (fine a (times n code) (decode (times n code) (bits (now (b .entry))) 24) && fine a ending (decode ending (bits (now (b .entry))) e)) ⌝ }
 {
-    let code = packet::code_lines();
-    let ending = packet::ending_lines();
+    let code = table::code_lines();
+    let ending = table::ending_lines();
     if !lines::rows_fine(a, code, 96, n, b, 24) {
         return false;
     }
@@ -117,7 +117,7 @@ pub(crate) fn answer(b: &[u8]) -> u8
     if size_bad(b) {
         return 20;
     }
-    if packet::is_unknown(parts::kind(b)) {
+    if table::is_unknown(parts::kind(b)) {
         return 23;
     }
     if length_bad(b) {

@@ -28,7 +28,7 @@ pub(crate) fn count_for(c: Content, lent: usize) -> usize
 {
     let l = packet::lay(c);
     let kind = l.kind;
-    let s = packet::row_of(kind);
+    let s = table::row_of(kind);
     let counting = s.counting;
     match counting {
         Counting::Fixed => 0,
@@ -44,7 +44,7 @@ pub(crate) fn digits_used(c: Content) -> usize
 {
     let l = packet::lay(c);
     let kind = l.kind;
-    let z = packet::sizes_of(kind);
+    let z = table::sizes_of(kind);
     z.first - l.n + z.last
 }
 
@@ -90,7 +90,7 @@ fn put_front(out: &mut [u8], p: usize, c: Content, digits: [u8; 35], k: usize) -
     requires { ⌜ (k ≤ 255) × (p < 3000) ⌝ }
     ensures { λ r. ⌜ After (now (out .entry)) (now (out .exit)) p (frontBits c digits k) r (frontSize c k) ⌝ }
 {
-    let s = packet::row_of(kind_for(c));
+    let s = table::row_of(kind_for(c));
     let before = s.before;
     let counting = s.counting;
     let front = front_of(c, digits);
@@ -104,9 +104,9 @@ fn put_body(out: &mut [u8], p: usize, c: Content, body: &[u8]) -> usize
     ensures { λ r. ⌜ After (now (out .entry)) (now (out .exit)) p (bodyBits c (now (body .entry))) r (bodySize c (now (body .entry))) ⌝ }
 {
     let f = kind_for(c);
-    if packet::has_entries(f) {
-        let s = packet::row_of(f);
-        let z = packet::sizes_of(f);
+    if table::has_entries(f) {
+        let s = table::row_of(f);
+        let z = table::sizes_of(f);
         let each = s.each;
         let k = count_for(c, body.len());
         puts::put_rows(out, p, each, k, z.row, body)
@@ -120,7 +120,7 @@ fn put_back(out: &mut [u8], p: usize, c: Content, digits: [u8; 35]) -> usize
     requires { ⌜ p < 30000 ⌝ }
     ensures { λ r. ⌜ After (now (out .entry)) (now (out .exit)) p (backBits c digits) r (size (rowFor c .after)) ⌝ }
 {
-    let s = packet::row_of(kind_for(c));
+    let s = table::row_of(kind_for(c));
     let after = s.after;
     let back = puts::widened(&digits, 0, 35);
     puts::put_lines(out, p, after, &back)

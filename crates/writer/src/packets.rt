@@ -48,7 +48,7 @@ pub(crate) fn put_packet(f: Fields, codes: &[u8], body: &[u8], size: usize, out:
     let digits = f.digits;
     let certificate = f.certificate;
     let signature = f.signature;
-    let row = packet::code_lines();
+    let row = table::code_lines();
     let p = put_head(out, f.typenumber, size, f.codes);
     let q = puts::put_rows(out, p, row, f.codes, 23, codes);
     let e = content::put_content(out, q, c, digits, body);

@@ -41,7 +41,7 @@ fn all_inside(xs: &[u8], lo: u8, hi: u8) -> bool
 fn front_fine(answer: u8, c: Content, digits: [u8; 35]) -> bool
     ensures { λ r. ⌜ r ≡ frontFine answer c digits ⌝ }
 {
-    let s = packet::row_of(content::kind_for(c));
+    let s = table::row_of(content::kind_for(c));
     let before = s.before;
     let front = content::front_of(c, digits);
     fits::lines_fit(answer, before, &front)
@@ -53,9 +53,9 @@ fn body_fine(answer: u8, c: Content, body: &[u8]) -> bool
     ensures { λ r. ⌜ r ≡ rowsFine answer c (now (body .entry)) ⌝ }
 {
     let f = content::kind_for(c);
-    if packet::has_entries(f) {
-        let s = packet::row_of(f);
-        let z = packet::sizes_of(f);
+    if table::has_entries(f) {
+        let s = table::row_of(f);
+        let z = table::sizes_of(f);
         let each = s.each;
         let k = content::count_for(c, body.len());
         fits::rows_fit(answer, each, k, z.row, body)
@@ -68,7 +68,7 @@ fn body_fine(answer: u8, c: Content, body: &[u8]) -> bool
 fn back_fine(answer: u8, c: Content, digits: [u8; 35]) -> bool
     ensures { λ r. ⌜ r ≡ backFine answer c digits ⌝ }
 {
-    let s = packet::row_of(content::kind_for(c));
+    let s = table::row_of(content::kind_for(c));
     let after = s.after;
     let back = puts::widened(&digits, 0, 35);
     fits::lines_fit(answer, after, &back)
@@ -120,7 +120,7 @@ fn digits_kept(c: Content, digits: [u8; 35]) -> bool
 fn body_lost(c: Content, lent: usize) -> bool
     ensures { λ r. ⌜ r ≡ bodyLost (rowFor c .counting) lent ⌝ }
 {
-    let s = packet::row_of(content::kind_for(c));
+    let s = table::row_of(content::kind_for(c));
     let counting = s.counting;
     match counting {
         Counting::Fixed => lent != 0,
@@ -147,8 +147,8 @@ fn lent_bad(c: Content, lent: usize) -> bool
 {
     let f = content::kind_for(c);
     let k = content::count_for(c, lent);
-    let z = packet::sizes_of(f);
-    let s = packet::row_of(f);
+    let z = table::sizes_of(f);
+    let s = table::row_of(f);
     let counting = s.counting;
     match counting {
         Counting::Fixed => false,
@@ -164,7 +164,7 @@ fn content_bytes(c: Content, lent: usize) -> usize
     ensures { λ r. ⌜ r ≡ bytesOf c lent ⌝ }
 {
     let k = content::count_for(c, lent);
-    let z = packet::sizes_of(content::kind_for(c));
+    let z = table::sizes_of(content::kind_for(c));
     (z.lead + k * z.each + z.rest) / 8
 }
 
@@ -278,7 +278,7 @@ fn rest_answer(f: Fields, codes: &[u8], body: &[u8], room: usize) -> u8
 pub(crate) fn answer(f: Fields, codes: &[u8], body: &[u8], room: usize) -> u8
     ensures { λ r. ⌜ r ≡ writtenAnswer f (now (codes .entry)) (now (body .entry)) room ⌝ }
 {
-    if packet::not_written(f.typenumber) {
+    if table::not_written(f.typenumber) {
         return 23;
     }
     if counts_bad(f, codes, body) {
