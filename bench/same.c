@@ -1,5 +1,5 @@
-/* The same steps as ours, in C: pending bits and delivery in one buffer, four blocks asked at a place and, right behind a frame, mended, else 39 places
-   asked at once; check bits by long division. */
+/* The same steps as ours, in C: pending bits and delivery in one buffer, the blocks at a place asked two at once and, right behind a frame, mended one by
+   one, else 39 places asked at once; check bits by long division. */
 #include "plain.h"
 
 static unsigned remainder_of(uint32_t p)
@@ -8,9 +8,16 @@ static unsigned remainder_of(uint32_t p)
     return (q ^ w << 3 ^ q << 5 ^ w << 7) & 0x3FF;
 }
 
-static int valid(uint32_t block, unsigned offset)
+/* What two blocks side by side leave on division, each in the low ten bits of its 26. */
+static uint64_t remainders(uint64_t blocks)
 {
-    return (remainder_of(block >> 10) ^ offset) == (block & 0x3FF);
+    uint64_t p = blocks & 0xFFFF003FFFC00, h = p >> 2, u = h ^ h >> 1, a = u ^ u >> 2 ^ h >> 4, q = (p ^ a ^ a >> 9) & 0x3FF0000FFC00, w = q ^ q << 1;
+    return ((q ^ w << 3 ^ q << 5 ^ w << 7) >> 10 ^ blocks) & 0xFFC0003FF;
+}
+
+static int both_pass(uint64_t x, unsigned first, unsigned second)
+{
+    return remainders(x >> 12) == ((uint64_t)first << 26 | second);
 }
 
 /* Bit k is 1 only where the 26 bits from bit k up may be a block A. */
@@ -70,12 +77,34 @@ static unsigned block_check(uint32_t info)
     return rest;
 }
 
-/* How many of four blocks were mended; 5 where one can't be. */
-static unsigned mended(uint32_t *blocks)
+static void blocks_of(uint64_t x, uint32_t *blocks)
+{
+    blocks[0] = (uint32_t)(x >> 38);
+    blocks[1] = (uint32_t)(x >> 12) & 0x3FFFFFF;
+}
+
+/* Whether a frame stands at a place, and its blocks. */
+static int frame_at(const uint8_t *b, size_t from, uint32_t *blocks)
+{
+    uint64_t x = window(b, from);
+    if (!both_pass(x, offset_of[0], offset_of[1]))
+        return 0;
+    uint64_t y = window(b, from + 52);
+    if (!both_pass(y, offset_of[2], offset_of[3]))
+        return 0;
+    blocks_of(x, blocks);
+    blocks_of(y, blocks + 2);
+    return 1;
+}
+
+/* How many of the four blocks at a place were mended; 5 where one can't be. */
+static unsigned mended_at(const uint8_t *b, size_t from, uint32_t *blocks)
 {
     unsigned changed = 0;
+    blocks_of(window(b, from), blocks);
+    blocks_of(window(b, from + 52), blocks + 2);
     for (int k = 0; k < 4; k++) {
-        unsigned rest = block_check(blocks[k] >> 10) ^ offset_of[k] ^ (blocks[k] & 0x3FF);
+        unsigned rest = remainder_of(blocks[k] >> 10) ^ offset_of[k] ^ (blocks[k] & 0x3FF);
         if (rest == 0)
             continue;
         if (table_change[rest] == 0)
@@ -102,13 +131,8 @@ int same_receive(struct plain_receiver *r, const uint8_t *delivery, size_t n, ui
     size_t end = (16 + n) * 8, from = 128 - r->count;
     int frames = 0, follows = r->follows != 0;
     while (from + 104 <= end) {
-        uint64_t x = window(b, from), y = window(b, from + 52);
-        uint32_t f[4] = {(uint32_t)(x >> 38), (uint32_t)(x >> 12) & 0x3FFFFFF, (uint32_t)(y >> 38), (uint32_t)(y >> 12) & 0x3FFFFFF};
-        unsigned changed = 5;
-        if (valid(f[0], offset_of[0]) && valid(f[1], offset_of[1]) && valid(f[2], offset_of[2]) && valid(f[3], offset_of[3]))
-            changed = 0;
-        else if (follows)
-            changed = mended(f);
+        uint32_t f[4];
+        unsigned changed = frame_at(b, from, f) ? 0 : follows ? mended_at(b, from, f) : 5;
         follows = changed < 5;
         if (follows) {
             put_eight(out + 8 * frames, (uint64_t)(f[0] >> 10) << 48 | (uint64_t)(f[1] >> 10) << 32 | (uint64_t)(f[2] >> 10) << 16 | f[3] >> 10);

@@ -6,7 +6,6 @@ use native.Mathlib.Nat.{mod-lt}
 use native.Mathlib.Omega.{arith}
 use borrow.Author.Tests.{eq-eqb, ne-eqb, eqb-true, ltb-true}
 use lib.Dec.{eqb, ltb}
-use lib.ListN.{getD}
 use lib.Pow.{pow-pos, split}
 use lib.Bits.{xor-comm, xor-lt, xor-self, xor-zero-r}
 use Rattle.laws.specs.Poly.{_⊕_}
@@ -18,7 +17,7 @@ use Rattle.block.specs.Block.{offsetOf, syndrome, checkWord, carries, isValid}
 use Rattle.block.proofs.Validity.{syndrome-xor, syndrome-block, valid-remainder, remainder-valid, check-word-small}
 use Rattle.mend.specs.Mend.{near, fits, nothing, mendedOf}
 use Rattle.mend.specs.Table.{none, Corrects}
-use Rattle.mend.proofs.Patterns.{patterns}
+use Rattle.mend.proofs.Patterns.{changeAt}
 use Rattle.mend.proofs.Rule.{table-corrects}
 use Rattle.mend.proofs.Near.{narrow-lt, near-narrow, narrow-near, near-lt}
 use Rattle.mend.proofs.Search.{used, sought-none, sought-one}
@@ -118,14 +117,14 @@ module _ (bits : ℕ) (letter : Letter) (p : ℕ) (e : Corrects (indexOf bits le
           (ne-eqb (bits ⊕ p) bits
           (λ q. absurd (true≢false (sym (eq-eqb p 0 (sym (xor-undo bits p) ∙ ap (λ (x : ℕ). bits ⊕ x) q ∙ xor-self bits)) ∙ y)))))
 
-entry : (bits : ℕ) (letter : Letter) → Corrects (indexOf bits letter) (getD patterns (indexOf bits letter) 0)
+entry : (bits : ℕ) (letter : Letter) → Corrects (indexOf bits letter) (changeAt (indexOf bits letter))
 entry bits letter = table-corrects (indexOf bits letter) (index-lt bits letter)
 
 -- At most one valid block of a letter differs from given bits only within five neighbouring bits.
 pub only-one : (bits : ℕ) (letter : Letter) (c d : ℕ) → fits bits letter c ≡ true → fits bits letter d ≡ true → c ≡ d
 only-one bits letter c d t u =
-    entry-only bits letter (getD patterns (indexOf bits letter) 0) (entry bits letter) c t
-    ∙ sym (entry-only bits letter (getD patterns (indexOf bits letter) 0) (entry bits letter) d u)
+    entry-only bits letter (changeAt (indexOf bits letter)) (entry bits letter) c t
+    ∙ sym (entry-only bits letter (changeAt (indexOf bits letter)) (entry bits letter) d u)
 
 -- If there is one, it is given, and marked as changed just where it is another number than the bits.
 pub given-one : (bits : ℕ) (letter : Letter) (c : ℕ) → fits bits letter c ≡ true → mendedOf bits letter ≡ used bits c

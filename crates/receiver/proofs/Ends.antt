@@ -1,12 +1,12 @@
 -- A record's bits and a delivery's in one buffer, and the record of the bits left at its end. Assumes nothing.
-use mathlib.Core.Path.{_≡_, sym, ap, ap₂, _∙_, subst}
+use mathlib.Core.Path.{_≡_, refl, sym, ap, ap₂, _∙_, subst}
 use mathlib.Core.Bool.{Bool}
-use mathlib.Core.List.{List, _++_}
-use Prim.Native.Nat.{ℕ, _+_, _*_, _/_, _%_, _-_, _^_, _<_, _≤_}
+use mathlib.Core.List.{List, [], _∷_, _++_}
+use Prim.Native.Nat.{ℕ, suc, _+_, _*_, _/_, _%_, _-_, _^_, _<_, _≤_}
 use native.Mathlib.Nat.{add-zero}
 use native.Mathlib.Omega.{arith}
-use lib.ListN.{length, take, drop, length-append, length-drop}
-use lib.Seq.{sets, take-all, take-at, length-sets, length-take-le}
+use lib.ListN.{length, set, take, drop, length-append, length-drop}
+use lib.Seq.{sets, set-comm, take-all, take-at, length-sets, length-take-le}
 use lib.Pow.{high, low}
 use borrow.Rule.Slice.PartMut.{putMid}
 use Rattle.laws.specs.Bits.{at, bitsOf, bits, bytes}
@@ -29,23 +29,38 @@ eight x = length-run (bitsOf 64 x) 0 (length (bitsOf 64 x) / 8) 8 ∙ omega (ari
 eight-bits : (x : ℕ) → bits (bytes (bitsOf 64 x)) ≡ bitsOf 64 x
 eight-bits x = bits-bytes (bitsOf 64 x) (under-bitsOf 64 x) (omega (arith, length-bitsOf 64 x))
 
-pub filled : (z a c o part d : List ℕ) (hi lo : ℕ) → lo < 2 ^ 64 → length z ≡ 536 → length d ≤ 512
-    → a ≡ sets z 0 (bytes (bitsOf 64 hi)) → c ≡ sets a 8 (bytes (bitsOf 64 lo))
-    → part ≡ take (length d) d ++ drop (length d) (take (length c - 16) (drop 16 c))
-    → o ≡ putMid 16 (length c - 16) c part
-    → take (128 + length d * 8) (bits o) ≡ bitsOf 128 (hi * 2 ^ 64 + lo) ++ bits d
-filled z a c o part d hi lo small n k ea ec ep eo =
+-- what is written further on may be written first
+set-past : (l v : List ℕ) (i j x : ℕ) → i < j → set (sets l j v) i x ≡ sets (set l i x) j v
+set-past l [] i j x h = refl
+set-past l (y ∷ v) i j x h =
+    let n : i ≡ j → ⊥ = λ e. omega arith in
+    set-past (set l j y) v i (suc j) x (omega arith) ∙ ap (λ (m : List ℕ). sets m (suc j) v) (sym (set-comm l i j x y n))
+
+sets-past : (l v w : List ℕ) (i j : ℕ) → i + length w ≤ j → sets (sets l j v) i w ≡ sets (sets l i w) j v
+sets-past l v [] i j h = refl
+sets-past l v (x ∷ w) i j h =
+    ap (λ (m : List ℕ). sets m (suc i) w) (set-past l v i j x (omega arith)) ∙ sets-past (set l i x) v w (suc i) j (omega arith)
+
+pub filled : (z a o part r d : List ℕ) (hi lo : ℕ) → lo < 2 ^ 64 → length z ≡ 536 → length d ≤ 512
+    → a ≡ sets z 0 (bytes (bitsOf 64 hi))
+    → part ≡ take (length d) d ++ drop (length d) (take (length a - 16) (drop 16 a))
+    → o ≡ putMid 16 (length a - 16) a part
+    → r ≡ sets o 8 (bytes (bitsOf 64 lo))
+    → take (128 + length d * 8) (bits r) ≡ bitsOf 128 (hi * 2 ^ 64 + lo) ++ bits d
+filled z a o part r d hi lo small n k ea ep eo er =
     let la : length a ≡ 536 = ap length ea ∙ length-sets z 0 (bytes (bitsOf 64 hi)) ∙ n in
-    let lc : length c ≡ 536 = ap length ec ∙ length-sets a 8 (bytes (bitsOf 64 lo)) ∙ la in
-    let room = take (length c - 16) (drop 16 c) in
-    let lr : length room ≡ 520 = length-take-le (length c - 16) (drop 16 c) (omega (arith, length-drop 16 c)) ∙ omega arith in
+    let room = take (length a - 16) (drop 16 a) in
+    let lr : length room ≡ 520 = length-take-le (length a - 16) (drop 16 a) (omega (arith, length-drop 16 a)) ∙ omega arith in
     let p : part ≡ sets room 0 d =
     ep ∙ ap (λ (m : List ℕ). m ++ drop (length d) room) (take-all (length d) d (omega arith)) ∙ sym (from-front d room (omega arith)) in
-    let o2 : o ≡ sets c 16 d = eo ∙ in-part c d part 16 (omega arith) p in
-    let c2 : c ≡ sets z 0 (bytes (bitsOf 64 hi) ++ bytes (bitsOf 64 lo)) = join z a c (bytes (bitsOf 64 hi)) (bytes (bitsOf 64 lo)) 0 8 ea ec (omega (arith, eight hi)) in
+    let c = sets a 8 (bytes (bitsOf 64 lo)) in
+    let o2 : r ≡ sets c 16 d =
+    er ∙ ap (λ (m : List ℕ). sets m 8 (bytes (bitsOf 64 lo))) (eo ∙ in-part a d part 16 (omega arith) p)
+    ∙ sets-past a d (bytes (bitsOf 64 lo)) 8 16 (omega (arith, eight lo)) in
+    let c2 : c ≡ sets z 0 (bytes (bitsOf 64 hi) ++ bytes (bitsOf 64 lo)) = join z a c (bytes (bitsOf 64 hi)) (bytes (bitsOf 64 lo)) 0 8 ea refl (omega (arith, eight hi)) in
     let two : length (bytes (bitsOf 64 hi) ++ bytes (bitsOf 64 lo)) ≡ 16 = length-append (bytes (bitsOf 64 hi)) (bytes (bitsOf 64 lo)) ∙ omega (arith, eight hi, eight lo) in
     let v = (bytes (bitsOf 64 hi) ++ bytes (bitsOf 64 lo)) ++ d in
-    let o3 : o ≡ sets z 0 v = join z c o (bytes (bitsOf 64 hi) ++ bytes (bitsOf 64 lo)) d 0 16 c2 o2 (omega arith) in
+    let o3 : r ≡ sets z 0 v = join z c r (bytes (bitsOf 64 hi) ++ bytes (bitsOf 64 lo)) d 0 16 c2 o2 (omega arith) in
     let lv : length v ≡ 16 + length d = length-append (bytes (bitsOf 64 hi) ++ bytes (bitsOf 64 lo)) d ∙ omega arith in
     let head : bits v ≡ bitsOf 128 (hi * 2 ^ 64 + lo) ++ bits d =
     spread-append 8 (bytes (bitsOf 64 hi) ++ bytes (bitsOf 64 lo)) d

@@ -1,6 +1,6 @@
 -- The search on its way over a buffer: what each turn does to what is left. Assumes nothing.
 use mathlib.Core.Path.{_≡_, refl, sym, ap, ap₂, _∙_, subst}
-use mathlib.Core.Bool.{Bool, true, false, false≢true}
+use mathlib.Core.Bool.{Bool, true, false, false≢true, _&&_}
 use mathlib.Core.List.{List, [], _∷_, _++_, append-assoc}
 use Prim.Native.Nat.{ℕ, zero, suc, _+_, _*_, _/_, _%_, _-_, _^_, _<_, _≤_}
 use native.Mathlib.Nat.{add-zero}
@@ -13,7 +13,7 @@ use Rattle.laws.proofs.Bits.{Under, length-spread, under-spread, under-take, un
 use Rattle.laws.proofs.ByteFields.{at-parts}
 use Rattle.laws.proofs.Words.{bits-join}
 use Rattle.laws.proofs.Writes.{sets-append}
-use Rattle.laws.proofs.Cases.{and-yes, and-no}
+use Rattle.laws.proofs.Cases.{and-yes, and-no, and-both}
 use Rattle.block.specs.Block.{isValid}
 use Rattle.block.specs.declared.Letter.{Letter}
 use Rattle.block.specs.declared.Letter.the-variants.{A, B, C, D}
@@ -25,6 +25,7 @@ use Rattle.receiver.specs.Rule.{Heard, isFrame, information, blockAt, ca
 use Rattle.receiver.specs.Receive.{joined}
 use Rattle.receiver.specs.Search.{ahead, heardFrom, Holds, NoneOf, Takes, Further, Searched}
 use Rattle.receiver.proofs.Octets.{within, at-drop, at-take}
+use Rattle.receiver.proofs.Pairs.{fails-more}
 use Rattle.receiver.proofs.Rule.{first, heard-short, heard-frame, heard-on}
 use Rattle.receiver.proofs.Sound.{taken-eight, mended-long, under-mended}
 use Rattle.receiver.proofs.Starts.{sum-same, frame-taken, frame-count, frame-bytes, mends, mended-fields}
@@ -151,67 +152,54 @@ module _ (l : List ℕ) (u : Under 2 l) (h : 104 ≤ length l) where
       (ap₂ (λ (m n : List ℕ). m ++ n) (word p 26 ep (omega arith))
       (ap₂ (λ (m n : List ℕ). m ++ n) (word q 52 ec (omega arith)) (word d 78 ed (omega arith)))))
 
-module _ (l : List ℕ) (a p q d : ℕ) (ea : a ≡ at l 0 26) (ep : p ≡ at l 26 26) where
-  pub no-a : isValid a A ≡ false → Takes false l noFrame
+module _ (l : List ℕ) (a p q d : ℕ) (ea : a ≡ at l 0 26) (ep : p ≡ at l 26 26) (ec : q ≡ at l 52 26) (ed : d ≡ at l 78 26) where
+  four : isFrame l ≡ (isValid a A && (isValid p B && (isValid q C && isValid d D)))
   unfolding isFrame
-  no-a v = none-found l (and-no _ (ap (λ (x : ℕ). isValid x A) (sym ea) ∙ v))
+  four =
+      sym
+      (ap₂ _&&_ (ap (λ (x : ℕ). isValid x A) ea)
+      (ap₂ _&&_ (ap (λ (x : ℕ). isValid x B) ep) (ap₂ _&&_ (ap (λ (x : ℕ). isValid x C) ec) (ap (λ (x : ℕ). isValid x D) ed))))
 
-  module _ (va : isValid a A ≡ true) where
-    pub no-b : isValid p B ≡ false → Takes false l noFrame
-    unfolding isFrame
-    no-b v = none-found l (and-yes _ (ap (λ (x : ℕ). isValid x A) (sym ea) ∙ va) ∙ and-no _ (ap (λ (x : ℕ). isValid x B) (sym ep) ∙ v))
+  pub no-first : (isValid a A && isValid p B) ≡ false → Takes false l noFrame
+  no-first v = none-found l (four ∙ fails-more (isValid a A) (isValid p B) (isValid q C && isValid d D) v)
 
-    module _ (vb : isValid p B ≡ true) (ec : q ≡ at l 52 26) where
-      pub no-c : isValid q C ≡ false → Takes false l noFrame
-      unfolding isFrame
-      no-c v =
-          none-found l
-          (and-yes _ (ap (λ (x : ℕ). isValid x A) (sym ea) ∙ va) ∙ and-yes _ (ap (λ (x : ℕ). isValid x B) (sym ep) ∙ vb) ∙ and-no _ (ap (λ (x : ℕ). isValid x C) (sym ec) ∙ v))
+  module _ (vf : (isValid a A && isValid p B) ≡ true) where
+    then : isFrame l ≡ (isValid q C && isValid d D)
+    then =
+        let v = and-both (isValid a A) (isValid p B) vf in
+        four ∙ and-yes _ (v .0) ∙ and-yes _ (v .1)
 
-      module _ (vc : isValid q C ≡ true) (ed : d ≡ at l 78 26) where
-        last-one : isFrame l ≡ isValid d D
-        unfolding isFrame
-        last-one =
-            and-yes _ (ap (λ (x : ℕ). isValid x A) (sym ea) ∙ va) ∙ and-yes _ (ap (λ (x : ℕ). isValid x B) (sym ep) ∙ vb)
-            ∙ and-yes _ (ap (λ (x : ℕ). isValid x C) (sym ec) ∙ vc) ∙ ap (λ (x : ℕ). isValid x D) (sym ed)
+    pub no-second : (isValid q C && isValid d D) ≡ false → Takes false l noFrame
+    no-second v = none-found l (then ∙ v)
 
-        pub no-d : isValid d D ≡ false → Takes false l noFrame
-        no-d v = none-found l (last-one ∙ v)
-
-        pub found : Under 2 l → 104 ≤ length l → (w : ℕ) → w ≡ (a / 1024 * 65536 + p / 1024) * 4294967296 + (q / 1024 * 65536 + d / 1024) → isValid d D ≡ true
-            → Takes false l (record { frame = true; words = w; mended = 0 })
-        unfolding isTaken takenBytes takenCount
-        found u h w e v = record {
-          same = sym (last-one ∙ v);
-          words = λ t. ap (λ (x : ℕ). bytes (bitsOf 64 x)) e ∙ words-are l u h a p q d ea ep ec ed;
-          count = λ t. refl;
-        }
+    pub found : Under 2 l → 104 ≤ length l → (w : ℕ) → w ≡ (a / 1024 * 65536 + p / 1024) * 4294967296 + (q / 1024 * 65536 + d / 1024) → (isValid q C && isValid d D) ≡ true
+        → Takes false l (record { frame = true; words = w; mended = 0 })
+    unfolding isTaken takenBytes takenCount
+    found u h w e v = record {
+      same = sym (then ∙ v);
+      words = λ t. ap (λ (x : ℕ). bytes (bitsOf 64 x)) e ∙ words-are l u h a p q d ea ep ec ed;
+      count = λ t. refl;
+    }
 
 module _ (b : List ℕ) (end from x y : ℕ) (hold : Holds b end) (h : from + 104 ≤ end) (ex : x ≡ at (bits b) from 64) (ey : y ≡ at (bits b) (from + 52) 64) where
   within-b : end ≤ length b * 8
   within-b = omega (arith, hold .padded)
 
-  pub stop-a : isValid (x / 274877906944) A ≡ false → Takes false (ahead b end from) noFrame
-  stop-a = no-a (ahead b end from) _ _ 0 0 (a-is b end from x y h within-b ex ey) (b-is b end from x y h within-b ex ey)
+  pub stop-first : (isValid (x / 274877906944) A && isValid (x / 4096 % 67108864) B) ≡ false → Takes false (ahead b end from) noFrame
+  stop-first =
+      no-first (ahead b end from) _ _ _ _ (a-is b end from x y h within-b ex ey) (b-is b end from x y h within-b ex ey) (c-is b end from x y h within-b ex ey) (d-is b end from x y h within-b ex ey)
 
-  module _ (va : isValid (x / 274877906944) A ≡ true) where
-    pub stop-b : isValid (x / 4096 % 67108864) B ≡ false → Takes false (ahead b end from) noFrame
-    stop-b = no-b (ahead b end from) _ _ 0 0 (a-is b end from x y h within-b ex ey) (b-is b end from x y h within-b ex ey) va
+  module _ (vf : (isValid (x / 274877906944) A && isValid (x / 4096 % 67108864) B) ≡ true) where
+    pub stop-second : (isValid (y / 274877906944) C && isValid (y / 4096 % 67108864) D) ≡ false → Takes false (ahead b end from) noFrame
+    stop-second =
+        no-second (ahead b end from) _ _ _ _ (a-is b end from x y h within-b ex ey) (b-is b end from x y h within-b ex ey) (c-is b end from x y h within-b ex ey) (d-is b end from x y h within-b ex ey) vf
 
-    module _ (vb : isValid (x / 4096 % 67108864) B ≡ true) where
-      pub stop-c : isValid (y / 274877906944) C ≡ false → Takes false (ahead b end from) noFrame
-      stop-c = no-c (ahead b end from) _ _ _ 0 (a-is b end from x y h within-b ex ey) (b-is b end from x y h within-b ex ey) va vb (c-is b end from x y h within-b ex ey)
-
-      module _ (vc : isValid (y / 274877906944) C ≡ true) where
-        pub stop-d : isValid (y / 4096 % 67108864) D ≡ false → Takes false (ahead b end from) noFrame
-        stop-d = no-d (ahead b end from) _ _ _ _ (a-is b end from x y h within-b ex ey) (b-is b end from x y h within-b ex ey) va vb (c-is b end from x y h within-b ex ey) vc (d-is b end from x y h within-b ex ey)
-
-        pub all-four : (w : ℕ)
-            → w ≡ (x / 274877906944 / 1024 * 65536 + x / 4096 % 67108864 / 1024) * 4294967296 + (y / 274877906944 / 1024 * 65536 + y / 4096 % 67108864 / 1024)
-            → isValid (y / 4096 % 67108864) D ≡ true → Takes false (ahead b end from) (record { frame = true; words = w; mended = 0 })
-        all-four w e =
-            found (ahead b end from) _ _ _ _ (a-is b end from x y h within-b ex ey) (b-is b end from x y h within-b ex ey) va vb (c-is b end from x y h within-b ex ey) vc (d-is b end from x y h within-b ex ey)
-            (under-ahead b end from) (omega (arith, ahead-long b end within-b from)) w e
+    pub all-four : (w : ℕ)
+        → w ≡ (x / 274877906944 / 1024 * 65536 + x / 4096 % 67108864 / 1024) * 4294967296 + (y / 274877906944 / 1024 * 65536 + y / 4096 % 67108864 / 1024)
+        → (isValid (y / 274877906944) C && isValid (y / 4096 % 67108864) D) ≡ true → Takes false (ahead b end from) (record { frame = true; words = w; mended = 0 })
+    all-four w e =
+        found (ahead b end from) _ _ _ _ (a-is b end from x y h within-b ex ey) (b-is b end from x y h within-b ex ey) (c-is b end from x y h within-b ex ey) (d-is b end from x y h within-b ex ey) vf
+        (under-ahead b end from) (omega (arith, ahead-long b end within-b from)) w e
 
 -- ---- the four blocks at a place, mended
 -- a block that was given has 26 bits

@@ -66,8 +66,9 @@ fn fill(buffer: &mut [u8], receiver: Receiver, delivery: &[u8])
     ensures { λ _. ⌜ take (128 + length (now (delivery .entry)) * 8) (bits (now (buffer .exit))) ≡ bitsOf 128 (receiver .high * 2 ^ 64 + receiver .low) ++ bits (now (delivery .entry)) ⌝ }
 {
     store::store(buffer, 0, receiver.high);
-    store::store(buffer, 8, receiver.low);
+    // between the two, so that each is one store of eight bytes: the compiler joins no sixteen
     bytes::copy(delivery, &mut buffer[16..]);
+    store::store(buffer, 8, receiver.low);
 }
 
 // The record of the bits from a place up to the end of some bytes.

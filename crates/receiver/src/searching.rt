@@ -4,12 +4,11 @@ use crate::store::store;
 use crate::window::window;
 use block::Letter;
 ghost use mathlib.Core.Path.{_≡_};
-ghost use mathlib.Core.Bool.{true, false};
-ghost use Prim.Native.Nat.{_+_, _*_, _/_, _≤_, _<_};
+ghost use mathlib.Core.Bool.{true, false, _&&_};
+ghost use Prim.Native.Nat.{_+_, _*_, _/_, _%_, _^_, _≤_, _<_};
 ghost use lib.ListN.{length};
 ghost use lib.Seq.{sets};
-ghost use Rattle.block.specs.Block.{isValid};
-ghost use Rattle.block.specs.Letters.{one, anyOf, placeOf};
+ghost use Rattle.block.specs.Block.{syndrome, isValid};
 ghost use Rattle.receiver.specs.Rule as rule;
 ghost use Rattle.receiver.specs.Receive.{joined};
 ghost use Rattle.receiver.specs.Search.{ahead, heardFrom, Holds, Takes, Searched};
@@ -28,22 +27,28 @@ pub(crate) struct Read {
     pub follows: bool,
 }
 
-fn expected_place(letter: Letter) -> u32
-    ensures { λ r. ⌜ r ≡ placeOf (one (anyOf letter)) ⌝ }
+// What two blocks side by side leave on division, each in the low ten bits of its 26. These are the steps of `block::remainder_of` in both at once: the
+// masks keep the information of each apart, and then the low ten bits of its quotient.
+fn remainders(blocks: u64) -> u64
+    requires { ⌜ blocks < 2 ^ 52 ⌝ }
+    ensures { λ r. ⌜ r ≡ syndrome (blocks / 2 ^ 26) * 2 ^ 26 + syndrome (blocks % 2 ^ 26) ⌝ }
 {
-    match letter {
-        Letter::A => 1,
-        Letter::B => 2,
-        Letter::C => 3,
-        Letter::D => 4,
-    }
+    let p = blocks & 0xF_FFF0_03FF_FC00;
+    let h = p >> 2;
+    let u = h ^ (h >> 1);
+    let a = u ^ (u >> 2) ^ (h >> 4);
+    let q = (p ^ a ^ (a >> 9)) & 0x3FF0_000F_FC00;
+    let w = q ^ (q << 1);
+    let r = q ^ (w << 3) ^ (q << 5) ^ (w << 7);
+    ((r >> 10) ^ blocks) & 0xF_FC00_03FF
 }
 
-// Whether the bits carry the letter expected.
-fn carries(block: u32, letter: Letter) -> bool
-    ensures { λ r. ⌜ r ≡ isValid block letter ⌝ }
+// Whether the first 52 of 64 bits are the blocks of two letters.
+fn both_pass(x: u64, first: Letter, second: Letter) -> bool
+    ensures { λ r. ⌜ r ≡ (isValid (x / 274877906944) first && isValid (x / 4096 % 67108864) second) ⌝ }
 {
-    block::place_of(block::letter_of(block)) == expected_place(letter)
+    let expected = block::offset_of(first) as u64 * 0x400_0000 + block::offset_of(second) as u64;
+    remainders(x >> 12) == expected
 }
 
 // The information of four blocks as one number.
@@ -72,23 +77,17 @@ fn frame_at(b: &[u8], end: usize, from: usize) -> Found
     ensures { λ r. ⌜ Takes false (ahead (now (b .entry)) end from) r ⌝ }
 {
     let x = window(b, from);
-    let a = (x >> 38) as u32;
-    if !carries(a, Letter::A) {
-        return no_frame();
-    }
-    let p = ((x >> 12) % 0x400_0000) as u32;
-    if !carries(p, Letter::B) {
+    if !both_pass(x, Letter::A, Letter::B) {
         return no_frame();
     }
     let y = window(b, from + 52);
+    if !both_pass(y, Letter::C, Letter::D) {
+        return no_frame();
+    }
+    let a = (x >> 38) as u32;
+    let p = ((x >> 12) % 0x400_0000) as u32;
     let q = (y >> 38) as u32;
-    if !carries(q, Letter::C) {
-        return no_frame();
-    }
     let d = ((y >> 12) % 0x400_0000) as u32;
-    if !carries(d, Letter::D) {
-        return no_frame();
-    }
     Found {
         frame: true,
         words: words_of(a, p, q, d),
