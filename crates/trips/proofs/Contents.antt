@@ -34,6 +34,10 @@ use Rattle.trips.proofs.Fitting.{tight}
 abbrev pub byteLine : Line → Bool
 byteLine t = not (eqb (t .answer) 0) || (eqb (t .lo) 0 && (eqb (t .hi) 255 && t .given))
 
+-- a line whose own numbers are digits
+abbrev pub digitLine : Line → Bool
+digitLine t = not (t .given) || (eqb (t .answer) 25 && (eqb (t .lo) 0 && eqb (t .hi) 9))
+
 -- every line that needs more than the first n numbers, and those behind it, pass
 unfoldable pub behind : (Line → Bool) → ℕ → List Line → Bool
 behind P n [] = true
@@ -62,6 +66,8 @@ pub record Fair (f : Kind) : Type 0 where
   pub bytes : all byteLine (rowOf f .each) ≡ true
   pub after : all (unmet 0) (rowOf f .after) ≡ true
   pub untested : behind (unmet 0) (numbersIn f) (rowOf f .before) ≡ true
+  pub front : behind digitLine (numbersIn f) (rowOf f .before) ≡ true
+  pub back : all digitLine (rowOf f .after) ≡ true
 
 -- the tests, one by one
 abbrev tests : Kind → List Bool
@@ -73,6 +79,7 @@ tests f =
     ∷ eqb (partAt (rowOf f) % 8) 0 ∷ eqb (size (rowOf f .each) % 8) 0 ∷ eqb (size (rowOf f .after) % 8) 0
     ∷ all (unmet 26) (rowOf f .before) ∷ all (unmet 26) (rowOf f .each) ∷ all (unmet 26) (rowOf f .after)
     ∷ all byteLine (rowOf f .each) ∷ all (unmet 0) (rowOf f .after) ∷ behind (unmet 0) (numbersIn f) (rowOf f .before)
+    ∷ behind digitLine (numbersIn f) (rowOf f .before) ∷ all digitLine (rowOf f .after)
     ∷ []
 
 abbrev passed : Kind → Bool
@@ -106,9 +113,11 @@ fair f =
       bytes = at 18 (omega arith);
       after = at 19 (omega arith);
       untested = at 20 (omega arith);
+      front = at 21 (omega arith);
+      back = at 22 (omega arith);
     }
   where
-    at : (i : ℕ) → i < 21 → getD (tests f) i true ≡ true
+    at : (i : ℕ) → i < 23 → getD (tests f) i true ≡ true
     at i l = all-at (λ (b : Bool). b) (tests f) i true (each-kind passed all-pass f) l
 
 pub few-digits : (c : Content) → digitsBefore c + digitsAfter c ≤ 35
