@@ -1,38 +1,60 @@
 -- Laws for loops over the lines of a table: a turn and the end of each. Assumes nothing.
-use mathlib.Core.Path.{_≡_, sym, ap, _∙_}
+use mathlib.Core.Path.{_≡_, refl, sym, ap, _∙_}
 use mathlib.Core.List.{List, _∷_}
 use mathlib.Core.Bool.{Bool, true, false, _&&_}
 use Prim.Native.Nat.{ℕ, suc, _+_, _*_, _-_, _<_, _≤_}
 use native.Mathlib.Numerals.{add-one}
+use native.Mathlib.Decide.{decLt}
 use native.Mathlib.Omega.{arith}
-use lib.ListN.{length, getD, take, drop, drop-of-length-le}
-use lib.Seq.{length-take-le, getD-take, drop-cons}
+use lib.ListN.{length, getD, take, drop, length-drop, drop-of-length-le, List·getD-eq-default}
+use lib.Seq.{length-take-le, getD-take, getD-drop, drop-cons}
 use borrow.Author.Tests.{eq-eqb, ne-eqb}
 use Rattle.laws.specs.Bits.{run}
 use Rattle.laws.specs.Scan.{all}
-use Rattle.laws.proofs.Cases.{and-both}
+use Rattle.laws.proofs.Elements.{all-at}
 use Rattle.format.specs.declared.Line.{Line}
-use Rattle.format.specs.Format.{times, size, need, own, decode, lineOk, fine, sound, unmet}
+use Rattle.format.specs.Format.{octets, times, size, need, own, decode, lineOk, fine, sound, unmet}
+use Rattle.packet.specs.InCode.{linesOfEach, everyLine}
 use Rattle.format.proofs.Tables.{fine-append, all-times, unmet-fine}
 
--- line j of the m first of six
-pub record Turn (all6 : List Line) (m j : ℕ) (d : Line) : Type 0 where
-  pub inside : j < length (take m all6)
-  pub same : getD all6 j d ≡ getD (take m all6) j d
+-- every line is one that the loops take, and so is what stands past the last
+every-sound : all sound everyLine ≡ true
+unfolding all everyLine linesOfEach
+every-sound = refl
 
-pub turn-at : (all6 : List Line) (m j : ℕ) (d : Line) → length all6 ≡ 6 → m ≤ 6 → j < m → Turn all6 m j d
-turn-at all6 m j d n h k = record { inside = omega (arith, length-take-le m all6 (omega arith)); same = sym (getD-take m all6 j d k) }
+pub every-few : length everyLine ≤ 1000
+unfolding everyLine linesOfEach
+every-few = omega arith
 
-pub lines-end : (all6 : List Line) (m j : ℕ) → length all6 ≡ 6 → m ≤ 6 → m ≤ j → length (take m all6) ≤ j
-lines-end all6 m j n h k = omega (arith, length-take-le m all6 (omega arith))
+sound-at : (i : ℕ) → sound (getD everyLine i (octets 0)) ≡ true
+sound-at i = elim (decLt i (length everyLine)) [
+  | yes l ↦ all-at sound everyLine i (octets 0) every-sound l
+  | no l ↦ ap sound (List·getD-eq-default everyLine (octets 0) {n = i} (omega arith))
+]
+
+-- line j of m from a place on, and the line that code has for it
+pub record Turn (from m j : ℕ) (t : Line) : Type 0 where
+  pub inside : j < length (take m (drop from everyLine))
+  pub same : t ≡ getD (take m (drop from everyLine)) j (octets 0)
+  pub good : sound t ≡ true
+
+long : (from m : ℕ) → from + m ≤ length everyLine → length (take m (drop from everyLine)) ≡ m
+long from m h = length-take-le m (drop from everyLine) (omega (arith, length-drop from everyLine))
+
+pub turn-at : (from m j : ℕ) (t : Line) → from + m ≤ length everyLine → j < m → t ≡ getD everyLine (from + j) (octets 0) → Turn from m j t
+turn-at from m j t h k e =
+    record {
+      inside = omega (arith, long from m h);
+      same = e ∙ sym (getD-drop from everyLine j (octets 0)) ∙ sym (getD-take m (drop from everyLine) j (octets 0) k);
+      good = ap sound e ∙ sound-at (from + j);
+    }
+
+pub lines-end : (from m j : ℕ) → from + m ≤ length everyLine → m ≤ j → length (take m (drop from everyLine)) ≤ j
+lines-end from m j h k = omega (arith, long from m h)
 
 module _ (T : List Line) (j : ℕ) (d t : Line) (h : j < length T) (e : t ≡ getD T j d) where
-  lines-cons : drop j T ≡ t ∷ drop (j + 1) T
+  pub lines-cons : drop j T ≡ t ∷ drop (j + 1) T
   lines-cons = rw (drop-cons T j d h, add-one, e)
-
-  pub sound-turn : all sound (drop j T) ≡ true → (sound t ≡ true) × (all sound (drop (j + 1) T) ≡ true)
-  unfolding all
-  sound-turn s = and-both (sound t) (all sound (drop (j + 1) T)) (ap (all sound) (sym lines-cons) ∙ s)
 
   pub fine-no : (k : ℕ) (l : List ℕ) (q : ℕ) (x : Bool) → x ≡ fine k (drop j T) (decode (drop j T) l q) → lineOk k t (run l q (t .count) (t .width)) ≡ false → false ≡ x
   unfolding fine decode

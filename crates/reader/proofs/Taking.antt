@@ -22,11 +22,11 @@ use Rattle.format.proofs.Sound.{sound-is}
 use Rattle.packet.specs.declared.Kind.{Kind}
 use Rattle.packet.specs.declared.Content.{Content}
 use Rattle.packet.specs.declared.Laid.{Laid}
-use Rattle.packet.specs.Table.{rowOf}
+use Rattle.packet.specs.Table.{kinds, rowOf}
 use Rattle.packet.specs.Content.{contentOf, numbersOf, numbersIn}
 use Rattle.packet.specs.Reading.{numbersAt, zeros, padded}
 use Rattle.packet.specs.InCode.{laidOf, widths, room, cut, namedBy}
-use Rattle.packet.proofs.Each.{kinds, each-kind}
+use Rattle.packet.proofs.Each.{each-kind}
 use Rattle.packet.proofs.Good.{good}
 use Rattle.packet.proofs.Contents.{length-back}
 use Rattle.reader.specs.Taking.{ownAt, Held, ofByte, Digits}

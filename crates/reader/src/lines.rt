@@ -2,10 +2,10 @@
 ghost use mathlib.Core.Path.{_≡_};
 ghost use mathlib.Core.Bool.{true, false};
 ghost use Prim.Native.Nat.{_*_, _<_, _≤_};
-ghost use lib.ListN.{take};
 ghost use Rattle.laws.specs.Bits.{at, run, bits};
 ghost use Rattle.laws.specs.Scan.{all};
 ghost use Rattle.format.specs.Format.{times, size, decode, lineOk, fine, sound, unmet};
+ghost use Rattle.packet.specs.InCode.{linesIn, Stands};
 use format::Line;
 use packet::Lines;
 
@@ -40,15 +40,15 @@ fn line_fine(k: u8, t: Line, b: &[u8], p: usize) -> bool
 
 // No line from bit p on is due the answer k.
 pub(crate) fn lines_fine(k: u8, ts: Lines, b: &[u8], p: usize) -> bool
-    requires { ⌜ (ts .m ≤ 6) × (all sound (take (ts .m) (ts .all)) ≡ true) × (p < 50000) ⌝ }
-    ensures { λ r. ⌜ r ≡ fine k (take (ts .m) (ts .all)) (decode (take (ts .m) (ts .all)) (bits (now (b .entry))) p) ⌝ }
+    requires { ⌜ Stands ts × (p < 50000) ⌝ }
+    ensures { λ r. ⌜ r ≡ fine k (linesIn ts) (decode (linesIn ts) (bits (now (b .entry))) p) ⌝ }
 {
     let m = ts.m;
-    let all = ts.all;
+    let from = ts.from;
     let mut q = p;
     let mut j: usize = 0;
     while j < m {
-        let t = all[j];
+        let t = table::line_at(from + j);
         if !line_fine(k, t, b, q) {
             return false;
         }
@@ -60,14 +60,14 @@ pub(crate) fn lines_fine(k: u8, ts: Lines, b: &[u8], p: usize) -> bool
 
 // No line is any concern of the answer k.
 fn lines_unmet(k: u8, ts: Lines) -> bool
-    requires { ⌜ ts .m ≤ 6 ⌝ }
-    ensures { λ r. ⌜ r ≡ all (unmet k) (take (ts .m) (ts .all)) ⌝ }
+    requires { ⌜ Stands ts ⌝ }
+    ensures { λ r. ⌜ r ≡ all (unmet k) (linesIn ts) ⌝ }
 {
     let m = ts.m;
-    let all = ts.all;
+    let from = ts.from;
     let mut j: usize = 0;
     while j < m {
-        let t = all[j];
+        let t = table::line_at(from + j);
         let o = t.answer;
         if o == k {
             return false;
@@ -79,8 +79,8 @@ fn lines_unmet(k: u8, ts: Lines) -> bool
 
 // The same of rows of lines, n of them, of s bits each; text has no line to test, so its bytes are passed over at once.
 pub(crate) fn rows_fine(k: u8, ts: Lines, s: usize, n: usize, b: &[u8], p: usize) -> bool
-    requires { ⌜ (ts .m ≤ 6) × (all sound (take (ts .m) (ts .all)) ≡ true) × (s ≡ size (take (ts .m) (ts .all))) × (s ≤ 100) × (n < 256) × (p < 4000) ⌝ }
-    ensures { λ r. ⌜ r ≡ fine k (times n (take (ts .m) (ts .all))) (decode (times n (take (ts .m) (ts .all))) (bits (now (b .entry))) p) ⌝ }
+    requires { ⌜ Stands ts × (s ≡ size (linesIn ts)) × (s ≤ 100) × (n < 256) × (p < 4000) ⌝ }
+    ensures { λ r. ⌜ r ≡ fine k (times n (linesIn ts)) (decode (times n (linesIn ts)) (bits (now (b .entry))) p) ⌝ }
 {
     if lines_unmet(k, ts) {
         return true;

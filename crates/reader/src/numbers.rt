@@ -5,8 +5,8 @@ ghost use Prim.Native.Nat.{_+_, _<_, _≤_};
 ghost use lib.ListN.{length, set, take, drop};
 ghost use lib.Seq.{sets};
 ghost use Rattle.laws.specs.Bits.{Under};
-ghost use Rattle.laws.specs.Scan.{all};
 ghost use Rattle.format.specs.Format.{times, own, sound};
+ghost use Rattle.packet.specs.InCode.{linesIn, Stands};
 ghost use Rattle.packet.specs.Reading.{numbersAt, zeros};
 ghost use Rattle.reader.specs.Taking.{ownAt, Rows};
 use crate::lines;
@@ -51,16 +51,16 @@ fn take_line(t: Line, b: &[u8], p: usize, out: &mut [u32], i: usize) -> usize
 
 // Those of lines from bit p on.
 pub(crate) fn take_lines(ts: Lines, b: &[u8], p: usize, out: &mut [u32])
-    requires { ⌜ (ts .m ≤ 6) × (all sound (take (ts .m) (ts .all)) ≡ true) × (p < 37000) ⌝ }
-    ensures { λ _. ⌜ now (out .exit) ≡ sets (now (out .entry)) 0 (numbersAt (take (ts .m) (ts .all)) (now (b .entry)) p) ⌝ }
+    requires { ⌜ Stands ts × (p < 37000) ⌝ }
+    ensures { λ _. ⌜ now (out .exit) ≡ sets (now (out .entry)) 0 (numbersAt (linesIn ts) (now (b .entry)) p) ⌝ }
 {
     let m = ts.m;
-    let all = ts.all;
+    let from = ts.from;
     let mut q = p;
     let mut i: usize = 0;
     let mut j: usize = 0;
     while j < m {
-        let t = all[j];
+        let t = table::line_at(from + j);
         i = take_line(t, b, q, out, i);
         q += lines::width(t);
         j += 1;
@@ -90,7 +90,7 @@ pub(crate) fn narrow(xs: &[u32], at: usize, n: usize, out: &mut [u8], i: usize)
 // Rows of lines, n of them, each of s bits and w numbers of at most a byte, from bit p on.
 pub(crate) fn take_rows(ts: Lines, s: usize, w: usize, n: usize, b: &[u8], p: usize, out: &mut [u8])
     requires { ⌜ Rows ts s w n p ⌝ }
-    ensures { λ _. ⌜ now (out .exit) ≡ sets (now (out .entry)) 0 (numbersAt (times n (take (ts .m) (ts .all))) (now (b .entry)) p) ⌝ }
+    ensures { λ _. ⌜ now (out .exit) ≡ sets (now (out .entry)) 0 (numbersAt (times n (linesIn ts)) (now (b .entry)) p) ⌝ }
 {
     let mut row = zeros41();
     let mut q = p;

@@ -12,10 +12,9 @@ use borrow.Author.Tests.{le-leb, lt-leb}
 use Rattle.format.specs.declared.Line.{Line}
 use Rattle.format.specs.Format.{own, need, inside, lineOk, fine, fill, times}
 use Rattle.format.proofs.Tables.{fill-join, fine-join, length-fill}
-use Rattle.format.proofs.Sound.{none}
+use Rattle.packet.proofs.Loops.{lines-cons}
 use Rattle.writer.specs.Puts.{valueOf}
 use Rattle.writer.proofs.Line.{length-value, number-at}
-use Rattle.writer.proofs.Lines.{cons}
 use Rattle.writer.proofs.Rows.{same-fill}
 
 -- ---- numbers
@@ -53,16 +52,15 @@ module _ (t : Line) (xs : List ℕ) (i : ℕ) (h : i + own t ≤ length xs) (j x
   pub line-next : t .lo ≤ x → x ≤ t .hi → inside (t .lo) (t .hi) (drop j (valueOf t (drop i xs))) ≡ inside (t .lo) (t .hi) (drop (j + 1) (valueOf t (drop i xs)))
   line-next l g = inside-next (valueOf t (drop i xs)) (t .lo) (t .hi) j within (omega (arith, here)) (omega (arith, here))
 
--- ---- lines, the first m of six
-module _ (a : ℕ) (ls : List Line) (m j : ℕ) (n : length ls ≡ 6) (h : m ≤ 6) where
-  pub lines-turn : j < m → (xs : List ℕ) (i : ℕ) → fine a (drop j (take m ls)) (fill (drop j (take m ls)) (drop i xs))
-      ≡ (lineOk a (getD ls j none) (valueOf (getD ls j none) (drop i xs)) && fine a (drop (j + 1) (take m ls)) (fill (drop (j + 1) (take m ls)) (drop (i + own (getD ls j none)) xs)))
-  unfolding fine fill
-  lines-turn k xs i = rw (cons ls m j n h k, drop-drop (own (getD ls j none)) i xs)
+-- ---- lines, t being the j-th
+pub lines-turn : (a : ℕ) (T : List Line) (j : ℕ) (d t : Line) → j < length T → t ≡ getD T j d → (xs : List ℕ) (i : ℕ) → fine a (drop j T) (fill (drop j T) (drop i xs))
+    ≡ (lineOk a t (valueOf t (drop i xs)) && fine a (drop (j + 1) T) (fill (drop (j + 1) T) (drop (i + own t) xs)))
+unfolding fine fill
+lines-turn a T j d t h e xs i = rw (lines-cons T j d t h e, drop-drop (own t) i xs)
 
-  pub lines-done : m ≤ j → (xs : List ℕ) → fine a (drop j (take m ls)) (fill (drop j (take m ls)) xs) ≡ true
-  unfolding fine
-  lines-done k xs = rw (drop-of-length-le (take m ls) {i = j} (omega (arith, length-take-le m ls (omega arith))))
+pub lines-done : (a : ℕ) (T : List Line) (j : ℕ) → length T ≤ j → (xs : List ℕ) → fine a (drop j T) (fill (drop j T) xs) ≡ true
+unfolding fine
+lines-done a T j k xs = rw (drop-of-length-le T {i = j} k)
 
 -- ---- rows of lines
 pub rows-turn : (a n j w : ℕ) (row : List Line) (wide xs : List ℕ) (i : ℕ) → j < n → need row ≡ w → w ≤ length wide → length xs ≡ i + (n - j) * w → take w wide ≡ take w (drop i xs)

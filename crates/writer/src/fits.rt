@@ -2,8 +2,9 @@
 ghost use mathlib.Core.Path.{_≡_};
 ghost use mathlib.Core.Bool.{true};
 ghost use Prim.Native.Nat.{_+_, _≤_};
-ghost use lib.ListN.{length, take, drop};
+ghost use lib.ListN.{length, drop};
 ghost use Rattle.format.specs.Format.{own, inside, lineOk, fine, fill, times, sound};
+ghost use Rattle.packet.specs.InCode.{linesIn};
 ghost use Rattle.writer.specs.Puts.{valueOf, Puttable, Rows};
 use crate::puts;
 use format::Line;
@@ -43,14 +44,14 @@ fn line_fits(a: u8, t: Line, xs: &[u32], i: usize) -> bool
 // No line with the numbers xs is due the answer a.
 pub(crate) fn lines_fit(a: u8, ts: Lines, xs: &[u32]) -> bool
     requires { ⌜ Puttable ts (now xs) 0 ⌝ }
-    ensures { λ r. ⌜ r ≡ fine a (take (ts .m) (ts .all)) (fill (take (ts .m) (ts .all)) (now (xs .entry))) ⌝ }
+    ensures { λ r. ⌜ r ≡ fine a (linesIn ts) (fill (linesIn ts) (now (xs .entry))) ⌝ }
 {
     let m = ts.m;
-    let all = ts.all;
+    let from = ts.from;
     let mut i: usize = 0;
     let mut j: usize = 0;
     while j < m {
-        let t = all[j];
+        let t = table::line_at(from + j);
         if !line_fits(a, t, xs, i) {
             return false;
         }
@@ -63,7 +64,7 @@ pub(crate) fn lines_fit(a: u8, ts: Lines, xs: &[u32]) -> bool
 // The same of rows of lines, n of them, each with w of the numbers xs.
 pub(crate) fn rows_fit(a: u8, ts: Lines, n: usize, w: usize, xs: &[u8]) -> bool
     requires { ⌜ Rows ts n w (now xs) 0 ⌝ }
-    ensures { λ r. ⌜ r ≡ fine a (times n (take (ts .m) (ts .all))) (fill (times n (take (ts .m) (ts .all))) (now (xs .entry))) ⌝ }
+    ensures { λ r. ⌜ r ≡ fine a (times n (linesIn ts)) (fill (times n (linesIn ts)) (now (xs .entry))) ⌝ }
 {
     let mut i: usize = 0;
     let mut j: usize = 0;

@@ -5,9 +5,9 @@ ghost use Prim.Native.Nat.{_+_, _*_, _<_, _≤_};
 ghost use lib.ListN.{length, getD, take, drop};
 ghost use lib.Seq.{sets};
 ghost use Rattle.laws.specs.Bits.{bits, spread};
-ghost use Rattle.laws.specs.Scan.{all};
 ghost use Rattle.format.specs.Format.{own, size, encode, fill, times, sound};
 ghost use Rattle.packet.specs.Table.{countLine};
+ghost use Rattle.packet.specs.InCode.{linesIn};
 ghost use mathlib.Core.List.{[]};
 ghost use Rattle.writer.specs.Puts.{valueOf, After, Puttable, Rows};
 use format::Line;
@@ -61,15 +61,15 @@ pub(crate) fn taken(t: Line) -> usize
 // Lines from bit p on, with the numbers xs; the place behind them.
 pub(crate) fn put_lines(out: &mut [u8], p: usize, ts: Lines, xs: &[u32]) -> usize
     requires { ⌜ Puttable ts (now xs) p ⌝ }
-    ensures { λ r. ⌜ After (now (out .entry)) (now (out .exit)) p (encode (take (ts .m) (ts .all)) (fill (take (ts .m) (ts .all)) (now (xs .entry)))) r (size (take (ts .m) (ts .all))) ⌝ }
+    ensures { λ r. ⌜ After (now (out .entry)) (now (out .exit)) p (encode (linesIn ts) (fill (linesIn ts) (now (xs .entry)))) r (size (linesIn ts)) ⌝ }
 {
     let m = ts.m;
-    let all = ts.all;
+    let from = ts.from;
     let mut q = p;
     let mut i: usize = 0;
     let mut j: usize = 0;
     while j < m {
-        let t = all[j];
+        let t = table::line_at(from + j);
         put_line(out, q, t, xs, i);
         q += width(t);
         i += taken(t);
@@ -95,7 +95,7 @@ pub(crate) fn widened(xs: &[u8], at: usize, n: usize) -> [u32; 40]
 // Rows of the same lines from bit p on, n of them, each with w of the numbers xs; the place behind them.
 pub(crate) fn put_rows(out: &mut [u8], p: usize, ts: Lines, n: usize, w: usize, xs: &[u8]) -> usize
     requires { ⌜ Rows ts n w (now xs) p ⌝ }
-    ensures { λ r. ⌜ After (now (out .entry)) (now (out .exit)) p (encode (times n (take (ts .m) (ts .all))) (fill (times n (take (ts .m) (ts .all))) (now (xs .entry)))) r (n * size (take (ts .m) (ts .all))) ⌝ }
+    ensures { λ r. ⌜ After (now (out .entry)) (now (out .exit)) p (encode (times n (linesIn ts)) (fill (times n (linesIn ts)) (now (xs .entry)))) r (n * size (linesIn ts)) ⌝ }
 {
     let mut q = p;
     let mut i: usize = 0;

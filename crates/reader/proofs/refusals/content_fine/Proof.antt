@@ -4,14 +4,13 @@ use mathlib.Core.List.{List}
 use Prim.Native.Nat.{ℕ, _+_, _*_}
 use denote.Ref.{now}
 use native.Mathlib.Omega.{arith}
+use Rattle.packet.proofs.Spans.{stands}
 use Rattle.laws.specs.Bits.{bits}
-use Rattle.format.specs.Format.{decode, size, times, fine, sound}
+use Rattle.format.specs.Format.{decode, size, times, fine}
 use Rattle.packet.specs.Table.{rowOf}
 use Rattle.packet.specs.Reading.{partAt}
-use Rattle.packet.proofs.Good.{good}
 use Rattle.reader.proofs.Whole as whole
 use borrow.Author.Tests.{not-true, not-false}
-use Rattle.laws.specs.Scan.{all}
 use Rattle.laws.proofs.Cases.{and-yes, and-no}
 use Rattle.format.specs.declared.Line.{Line}
 use borrow.Author.Needs.{needs}
@@ -29,26 +28,26 @@ add-p c = omega (arith, whole.sizes (c .before .before .before .before .before .
 
 lines-fine-requires : tie.Need-lines-fine-requires
 lines-fine-requires c κs =
-    let s = c .before .before .before .before .before .row-of .ensures in
-    (s .first .few, ap (all sound) (s .first .lines) ∙ good (c .before .before .before .before .before .before .before .args .f) .before, omega arith)
+    let s = stands _ (c .before .before .before .before .before .row-of .ensures) in
+    (s .first .few, omega arith)
 
 returns : tie.Need-returns
 returns c =
     let a = c .before .before .before .before .before .before .before .before .before .args in
-    let e = c .before .lines-fine .ensures ∙ ap (λ (T : List Line). fine (a .a) T (decode T (bits (now (a .b))) (a .q))) (c .before .before .before .before .before .before .before .row-of .ensures .first .lines) in
+    let e = c .before .lines-fine .ensures ∙ ap (λ (T : List Line). fine (a .a) T (decode T (bits (now (a .b))) (a .q))) (stands _ (c .before .before .before .before .before .before .before .row-of .ensures) .first .lines) in
     sym (whole.content-parts (a .a) (rowOf (a .f)) (a .k) (bits (now (a .b))) (a .q) (c .before .before .before .before .before .before .before .before .before .pre .0) ∙ and-no _ (sym e ∙ not-true (c .before .lines-fine .result) (c .if1 .taken)))
 
 rows-fine-requires : tie.Need-rows-fine-requires
 rows-fine-requires c κs =
-    let s = c .before .before .before .before .before .before .before .row-of .ensures in
+    let s = stands _ (c .before .before .before .before .before .before .before .row-of .ensures) in
     let z = whole.sizes (c .before .before .before .before .before .before .before .before .before .args .f) (c .before .before .before .sizes-of .result) (c .before .before .before .sizes-of .ensures) in
-    (s .rows .few, ap (all sound) (s .rows .lines) ∙ good (c .before .before .before .before .before .before .before .before .before .args .f) .each, z .each ∙ sym (ap size (s .rows .lines)), omega (arith, z .each-most), omega arith, omega (arith, z .lead-most))
+    (s .rows .few, z .each ∙ sym (ap size (s .rows .lines)), omega (arith, z .each-most), omega arith, omega (arith, z .lead-most))
 
 returns-2 : tie.Need-returns-2
 returns-2 c =
     let a = c .before .before .before .before .before .before .before .before .before .before .before .args in
     let b = bits (now (a .b)) in
-    let s = c .before .before .before .before .before .before .before .before .before .row-of .ensures in
+    let s = stands _ (c .before .before .before .before .before .before .before .before .before .row-of .ensures) in
     let z = c .before .before .before .before .before .sizes-of .result in
     let e = c .before .before .before .lines-fine .ensures ∙ ap (λ (T : List Line). fine (a .a) T (decode T b (a .q))) (s .first .lines) in
     let p = ap (λ (n : ℕ). a .q + n) (whole.sizes (a .f) z (c .before .before .before .before .before .sizes-of .ensures) .lead) in
@@ -68,16 +67,16 @@ add-lines-fine c =
 
 lines-fine-requires-2 : tie.Need-lines-fine-requires-2
 lines-fine-requires-2 c κs =
-    let s = c .before .before .before .before .before .before .before .before .before .before .row-of .ensures in
+    let s = stands _ (c .before .before .before .before .before .before .before .before .before .before .row-of .ensures) in
     let z = c .before .before .before .before .before .before .sizes-of .result in
     let y = whole.sizes (c .before .before .before .before .before .before .before .before .before .before .before .before .args .f) z (c .before .before .before .before .before .before .sizes-of .ensures) in
-    (s .last .few, ap (all sound) (s .last .lines) ∙ good (c .before .before .before .before .before .before .before .before .before .before .before .before .args .f) .after, omega (arith, whole.row-fits (c .before .before .before .before .before .before .before .before .before .before .before .before .args .k) (z .each) (c .before .before .before .before .before .before .before .before .before .before .before .before .pre .1) (y .each-most), y .lead-most))
+    (s .last .few, omega (arith, whole.row-fits (c .before .before .before .before .before .before .before .before .before .before .before .before .args .k) (z .each) (c .before .before .before .before .before .before .before .before .before .before .before .before .pre .1) (y .each-most), y .lead-most))
 
 returns-3 : tie.Need-returns-3
 returns-3 c =
     let a = c .before .before .before .before .before .before .before .before .before .before .before .before .before .args in
     let b = bits (now (a .b)) in
-    let s = c .before .before .before .before .before .before .before .before .before .before .before .row-of .ensures in
+    let s = stands _ (c .before .before .before .before .before .before .before .before .before .before .before .row-of .ensures) in
     let z = c .before .before .before .before .before .before .before .sizes-of .result in
     let y = whole.sizes (a .f) z (c .before .before .before .before .before .before .before .sizes-of .ensures) in
     let e = c .before .before .before .before .before .lines-fine .ensures ∙ ap (λ (T : List Line). fine (a .a) T (decode T b (a .q))) (s .first .lines) in
