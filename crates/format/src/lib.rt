@@ -1,7 +1,7 @@
 // A table language for formats of bits: what a line of a table is, and the numbers of a table read, tested and written.
 ghost use mathlib.Core.Path.{_≡_};
 ghost use Prim.Native.Nat.{_+_, _*_, _/_, _%_, _<_, _≤_, _-_, _^_};
-ghost use lib.ListN.{length, getD, set};
+ghost use lib.ListN.{length, set};
 ghost use lib.Seq.{sets};
 ghost use Rattle.laws.specs.Bits.{at, bitsOf, run, spread, bits};
 ghost use Rattle.format.specs.Format.{inside};
@@ -47,12 +47,11 @@ pub fn part(b: &[u8], from: usize, k: usize) -> &[u8]
     }
 }
 
-// Bit i, the highest of the first byte being bit 0.
-fn bit(b: &[u8], i: usize) -> u32
-    ensures { λ r. ⌜ r ≡ getD (bits (now (b .entry))) i 0 ⌝ }
+// The smaller of two.
+fn least(a: usize, b: usize) -> usize
+    ensures { λ r. ⌜ r ≡ a - (a - b) ⌝ }
 {
-    let x = octets::byte(b, i / 8) as u32;
-    (x >> ((7 - i % 8) as u32)) % 2
+    if a < b { a } else { b }
 }
 
 // The lowest k bits of a number, all ones.
@@ -73,15 +72,19 @@ fn bits_within(x: u8, i: usize, w: usize) -> u32
     (y >> ((8 - (i + w)) as u32)) & m
 }
 
-fn read_bits(b: &[u8], p: usize, w: usize) -> u32
+// A part for each byte that the number lies in.
+fn read_parts(b: &[u8], p: usize, w: usize) -> u32
     requires { ⌜ (w ≤ 32) × (p < 80000) ⌝ }
     ensures { λ r. ⌜ r ≡ at (bits (now (b .entry))) p w ⌝ }
 {
     let mut x: u32 = 0;
     let mut j: usize = 0;
     while j < w {
-        x = x * 2 + bit(b, p + j);
-        j += 1;
+        let q = p + j;
+        let k = least(8 - q % 8, w - j);
+        let y = bits_within(octets::byte(b, q / 8), q % 8, k);
+        x = (x << (k as u32)) + y;
+        j += k;
     }
     x
 }
@@ -95,7 +98,7 @@ fn read_field(b: &[u8], p: usize, w: usize) -> u32
     if i + w <= 8 {
         bits_within(octets::byte(b, p / 8), i, w)
     } else {
-        read_bits(b, p, w)
+        read_parts(b, p, w)
     }
 }
 
@@ -208,15 +211,17 @@ fn put_within(out: &mut [u8], k: usize, i: usize, w: usize, v: u32)
     put(out, k, y);
 }
 
-fn write_bits(out: &mut [u8], p: usize, w: usize, x: u32)
+// A part for each byte that the number lies in.
+fn write_parts(out: &mut [u8], p: usize, w: usize, x: u32)
     requires { ⌜ (w ≤ 32) × (p < 80000) ⌝ }
     ensures { λ _. ⌜ bits (now (out .exit)) ≡ sets (bits (now (out .entry))) p (bitsOf w x) ⌝ }
 {
     let mut j: usize = 0;
     while j < w {
         let i = p + j;
-        put_within(out, i / 8, i % 8, 1, x >> ((w - 1 - j) as u32));
-        j += 1;
+        let k = least(8 - i % 8, w - j);
+        put_within(out, i / 8, i % 8, k, x >> ((w - j - k) as u32));
+        j += k;
     }
 }
 
@@ -229,7 +234,7 @@ fn write_field(out: &mut [u8], p: usize, w: usize, x: u32)
     if i + w <= 8 {
         put_within(out, p / 8, i, w, x);
     } else {
-        write_bits(out, p, w, x);
+        write_parts(out, p, w, x);
     }
 }
 
