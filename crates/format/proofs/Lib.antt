@@ -4,3 +4,4 @@ pub mod Leaves
 pub mod Sound
 pub mod Within
 pub mod Parts
+pub mod Halves
