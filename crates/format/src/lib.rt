@@ -1,9 +1,10 @@
 // A table language for formats of bits: what a line of a table is, and the numbers of a table read, tested and written.
 ghost use mathlib.Core.Path.{_≡_};
 ghost use Prim.Native.Nat.{_+_, _*_, _/_, _%_, _<_, _≤_, _-_, _^_};
-ghost use lib.ListN.{length, getD, set};
+ghost use lib.ListN.{length, set};
 ghost use lib.Seq.{sets};
 ghost use Rattle.laws.specs.Bits.{at, bitsOf, run, spread, bits};
+ghost use mathlib.Core.Bool.{true};
 ghost use Rattle.format.specs.Format.{inside};
 ghost use Rattle.format.specs.Reach.{reach, partOf, fieldRead, fieldsRead, inRange, fieldBits, fieldsBits};
 
@@ -47,12 +48,11 @@ pub fn part(b: &[u8], from: usize, k: usize) -> &[u8]
     }
 }
 
-// Bit i, the highest of the first byte being bit 0.
-fn bit(b: &[u8], i: usize) -> u32
-    ensures { λ r. ⌜ r ≡ getD (bits (now (b .entry))) i 0 ⌝ }
+// The smaller of two.
+fn least(a: usize, b: usize) -> usize
+    ensures { λ r. ⌜ r ≡ a - (a - b) ⌝ }
 {
-    let x = octets::byte(b, i / 8) as u32;
-    (x >> ((7 - i % 8) as u32)) % 2
+    if a < b { a } else { b }
 }
 
 // The lowest k bits of a number, all ones.
@@ -73,15 +73,19 @@ fn bits_within(x: u8, i: usize, w: usize) -> u32
     (y >> ((8 - (i + w)) as u32)) & m
 }
 
-fn read_bits(b: &[u8], p: usize, w: usize) -> u32
+// A part for each byte that the number lies in.
+fn read_parts(b: &[u8], p: usize, w: usize) -> u32
     requires { ⌜ (w ≤ 32) × (p < 80000) ⌝ }
     ensures { λ r. ⌜ r ≡ at (bits (now (b .entry))) p w ⌝ }
 {
     let mut x: u32 = 0;
     let mut j: usize = 0;
     while j < w {
-        x = x * 2 + bit(b, p + j);
-        j += 1;
+        let q = p + j;
+        let k = least(8 - q % 8, w - j);
+        let y = bits_within(octets::byte(b, q / 8), q % 8, k);
+        x = (x << (k as u32)) + y;
+        j += k;
     }
     x
 }
@@ -95,7 +99,7 @@ fn read_field(b: &[u8], p: usize, w: usize) -> u32
     if i + w <= 8 {
         bits_within(octets::byte(b, p / 8), i, w)
     } else {
-        read_bits(b, p, w)
+        read_parts(b, p, w)
     }
 }
 
@@ -125,7 +129,36 @@ fn put(out: &mut [u8], i: usize, v: u8)
     }
 }
 
-fn read_fields(b: &[u8], p: usize, n: usize, w: usize, out: &mut [u8], to: usize)
+// Half bytes that end at a byte's edge, all within so many bytes.
+fn halved(p: usize, n: usize, w: usize, len: usize) -> bool
+    requires { ⌜ (p < 65536) × (n < 256) ⌝ }
+    ensures { λ r. ⌜ (r ≡ true → (w ≡ 4) × ((p + 4 * n) % 8 ≡ 0) × (p + 4 * n ≤ 8 * len)) ⌝ }
+{
+    let e = p + 4 * n;
+    if w != 4 {
+        return false;
+    }
+    if e % 8 != 0 {
+        return false;
+    }
+    e / 8 <= len
+}
+
+// Numbers that are bytes, all within so many.
+fn whole(p: usize, n: usize, w: usize, len: usize) -> bool
+    requires { ⌜ (p < 65536) × (n < 256) ⌝ }
+    ensures { λ r. ⌜ (r ≡ true → (w ≡ 8) × (p % 8 ≡ 0) × (p / 8 + n ≤ len)) ⌝ }
+{
+    if w != 8 {
+        return false;
+    }
+    if p % 8 != 0 {
+        return false;
+    }
+    p / 8 + n <= len
+}
+
+fn read_each(b: &[u8], p: usize, n: usize, w: usize, out: &mut [u8], to: usize)
     requires { ⌜ (w ≤ 8) × (p < 65536) × (n < 256) × (to < 65536) ⌝ }
     ensures { λ _. ⌜ now (out .exit) ≡ sets (now (out .entry)) to (run (bits (now (b .entry))) p n w) ⌝ }
 {
@@ -136,6 +169,64 @@ fn read_fields(b: &[u8], p: usize, n: usize, w: usize, out: &mut [u8], to: usize
         put(out, to + j, x);
         q += w;
         j += 1;
+    }
+}
+
+// n bytes from byte k on, as they are.
+fn read_octets(b: &[u8], k: usize, n: usize, out: &mut [u8], to: usize)
+    requires { ⌜ (k + n ≤ length (now b)) × (to + n ≤ length (now out)) ⌝ }
+    ensures { λ _. ⌜ now (out .exit) ≡ sets (now (out .entry)) to (run (bits (now (b .entry))) (k * 8) n 8) ⌝ }
+{
+    let mut j: usize = 0;
+    while j < n {
+        out[to + j] = b[k + j];
+        j += 1;
+    }
+}
+
+// The two halves of each of m bytes from byte k on.
+fn read_pairs(b: &[u8], k: usize, m: usize, out: &mut [u8], to: usize)
+    requires { ⌜ (k + m ≤ length (now b)) × (to + 2 * m ≤ length (now out)) ⌝ }
+    ensures { λ _. ⌜ now (out .exit) ≡ sets (now (out .entry)) to (run (bits (now (b .entry))) (k * 8) (2 * m) 4) ⌝ }
+{
+    let mut i = to;
+    let mut j: usize = 0;
+    while j < m {
+        let x = b[k + j];
+        out[i] = x / 16;
+        out[i + 1] = x % 16;
+        i += 2;
+        j += 1;
+    }
+}
+
+// Half bytes: where their number is odd one by itself, then two a byte.
+fn read_halves(b: &[u8], p: usize, n: usize, out: &mut [u8], to: usize)
+    requires { ⌜ ((p + 4 * n) % 8 ≡ 0) × (p + 4 * n ≤ 8 * length (now b)) × (to + n ≤ length (now out)) × (p < 65536) × (to < 65536) ⌝ }
+    ensures { λ _. ⌜ now (out .exit) ≡ sets (now (out .entry)) to (run (bits (now (b .entry))) p n 4) ⌝ }
+{
+    let a = n % 2;
+    read_each(b, p, a, 4, out, to);
+    read_pairs(b, p / 8 + a, n / 2, out, to + a);
+}
+
+// Half bytes and bytes without a look at every number's place.
+fn read_fields(b: &[u8], p: usize, n: usize, w: usize, out: &mut [u8], to: usize)
+    requires { ⌜ (w ≤ 8) × (p < 65536) × (n < 256) × (to < 65536) ⌝ }
+    ensures { λ _. ⌜ now (out .exit) ≡ sets (now (out .entry)) to (run (bits (now (b .entry))) p n w) ⌝ }
+{
+    if to + n <= out.len() {
+        if halved(p, n, w, b.len()) {
+            read_halves(b, p, n, out, to);
+        } else {
+            if whole(p, n, w, b.len()) {
+                read_octets(b, p / 8, n, out, to);
+            } else {
+                read_each(b, p, n, w, out, to);
+            }
+        }
+    } else {
+        read_each(b, p, n, w, out, to);
     }
 }
 
@@ -152,7 +243,7 @@ pub fn fields(b: &[u8], p: usize, n: usize, w: usize, out: &mut [u8], to: usize)
     }
 }
 
-fn test_range(b: &[u8], p: usize, n: usize, w: usize, lo: u32, hi: u32) -> bool
+fn test_each(b: &[u8], p: usize, n: usize, w: usize, lo: u32, hi: u32) -> bool
     requires { ⌜ (w ≤ 32) × (p < 65536) × (n < 256) ⌝ }
     ensures { λ r. ⌜ r ≡ inside lo hi (run (bits (now (b .entry))) p n w) ⌝ }
 {
@@ -170,6 +261,49 @@ fn test_range(b: &[u8], p: usize, n: usize, w: usize, lo: u32, hi: u32) -> bool
         j += 1;
     }
     true
+}
+
+// The two halves of each of m bytes from byte k on are at most hi.
+fn test_pairs(b: &[u8], k: usize, m: usize, hi: u32) -> bool
+    requires { ⌜ k + m ≤ length (now b) ⌝ }
+    ensures { λ r. ⌜ r ≡ inside 0 hi (run (bits (now (b .entry))) (k * 8) (2 * m) 4) ⌝ }
+{
+    let mut j: usize = 0;
+    while j < m {
+        let x = b[k + j] as u32;
+        if x / 16 > hi {
+            return false;
+        }
+        if x % 16 > hi {
+            return false;
+        }
+        j += 1;
+    }
+    true
+}
+
+// Half bytes, as they are read.
+fn test_halves(b: &[u8], p: usize, n: usize, hi: u32) -> bool
+    requires { ⌜ ((p + 4 * n) % 8 ≡ 0) × (p + 4 * n ≤ 8 * length (now b)) × (p < 65536) ⌝ }
+    ensures { λ r. ⌜ r ≡ inside 0 hi (run (bits (now (b .entry))) p n 4) ⌝ }
+{
+    let a = n % 2;
+    if !test_each(b, p, a, 4, 0, hi) {
+        return false;
+    }
+    test_pairs(b, p / 8 + a, n / 2, hi)
+}
+
+fn test_range(b: &[u8], p: usize, n: usize, w: usize, lo: u32, hi: u32) -> bool
+    requires { ⌜ (w ≤ 32) × (p < 65536) × (n < 256) ⌝ }
+    ensures { λ r. ⌜ r ≡ inside lo hi (run (bits (now (b .entry))) p n w) ⌝ }
+{
+    if lo == 0 {
+        if halved(p, n, w, b.len()) {
+            return test_halves(b, p, n, hi);
+        }
+    }
+    test_each(b, p, n, w, lo, hi)
 }
 
 // Each of n numbers of w bits from bit p on is lo to hi.
@@ -208,15 +342,17 @@ fn put_within(out: &mut [u8], k: usize, i: usize, w: usize, v: u32)
     put(out, k, y);
 }
 
-fn write_bits(out: &mut [u8], p: usize, w: usize, x: u32)
+// A part for each byte that the number lies in.
+fn write_parts(out: &mut [u8], p: usize, w: usize, x: u32)
     requires { ⌜ (w ≤ 32) × (p < 80000) ⌝ }
     ensures { λ _. ⌜ bits (now (out .exit)) ≡ sets (bits (now (out .entry))) p (bitsOf w x) ⌝ }
 {
     let mut j: usize = 0;
     while j < w {
         let i = p + j;
-        put_within(out, i / 8, i % 8, 1, x >> ((w - 1 - j) as u32));
-        j += 1;
+        let k = least(8 - i % 8, w - j);
+        put_within(out, i / 8, i % 8, k, x >> ((w - j - k) as u32));
+        j += k;
     }
 }
 
@@ -229,7 +365,7 @@ fn write_field(out: &mut [u8], p: usize, w: usize, x: u32)
     if i + w <= 8 {
         put_within(out, p / 8, i, w, x);
     } else {
-        write_bits(out, p, w, x);
+        write_parts(out, p, w, x);
     }
 }
 
@@ -242,7 +378,7 @@ pub fn put_field(out: &mut [u8], p: usize, w: usize, x: u32)
     }
 }
 
-fn write_fields(out: &mut [u8], p: usize, w: usize, d: &[u8])
+fn write_each(out: &mut [u8], p: usize, w: usize, d: &[u8])
     requires { ⌜ (w ≤ 32) × (p < 65536) × (length (now d) < 256) ⌝ }
     ensures { λ _. ⌜ bits (now (out .exit)) ≡ sets (bits (now (out .entry))) p (spread w (now (d .entry))) ⌝ }
 {
@@ -252,6 +388,60 @@ fn write_fields(out: &mut [u8], p: usize, w: usize, d: &[u8])
         write_field(out, q, w, d[j] as u32);
         q += w;
         j += 1;
+    }
+}
+
+// Bytes from byte k on, as they are.
+fn write_octets(out: &mut [u8], k: usize, d: &[u8])
+    requires { ⌜ k + length (now d) ≤ length (now out) ⌝ }
+    ensures { λ _. ⌜ bits (now (out .exit)) ≡ sets (bits (now (out .entry))) (k * 8) (spread 8 (now (d .entry))) ⌝ }
+{
+    let n = d.len();
+    let mut j: usize = 0;
+    while j < n {
+        out[k + j] = d[j];
+        j += 1;
+    }
+}
+
+// Half bytes, two to each of m bytes from byte k on.
+fn write_pairs(out: &mut [u8], k: usize, m: usize, d: &[u8])
+    requires { ⌜ (k + m ≤ length (now out)) × (length (now d) ≡ 2 * m) ⌝ }
+    ensures { λ _. ⌜ bits (now (out .exit)) ≡ sets (bits (now (out .entry))) (k * 8) (spread 4 (now (d .entry))) ⌝ }
+{
+    let mut i: usize = 0;
+    let mut j: usize = 0;
+    while j < m {
+        out[k + j] = d[i] % 16 * 16 + d[i + 1] % 16;
+        i += 2;
+        j += 1;
+    }
+}
+
+// Half bytes, as they are read.
+fn write_halves(out: &mut [u8], p: usize, d: &[u8])
+    requires { ⌜ ((p + 4 * length (now d)) % 8 ≡ 0) × (p + 4 * length (now d) ≤ 8 * length (now out)) × (p < 65536) ⌝ }
+    ensures { λ _. ⌜ bits (now (out .exit)) ≡ sets (bits (now (out .entry))) p (spread 4 (now (d .entry))) ⌝ }
+{
+    let n = d.len();
+    let a = n % 2;
+    write_each(out, p, 4, &d[0..a]);
+    write_pairs(out, p / 8 + a, n / 2, &d[a..n]);
+}
+
+fn write_fields(out: &mut [u8], p: usize, w: usize, d: &[u8])
+    requires { ⌜ (w ≤ 32) × (p < 65536) × (length (now d) < 256) ⌝ }
+    ensures { λ _. ⌜ bits (now (out .exit)) ≡ sets (bits (now (out .entry))) p (spread w (now (d .entry))) ⌝ }
+{
+    let n = d.len();
+    if halved(p, n, w, out.len()) {
+        write_halves(out, p, d);
+    } else {
+        if whole(p, n, w, out.len()) {
+            write_octets(out, p / 8, d);
+        } else {
+            write_each(out, p, w, d);
+        }
     }
 }
 

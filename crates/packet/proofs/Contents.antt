@@ -17,13 +17,13 @@ use Rattle.packet.specs.declared.Kind.the-variants.{Frequencies, Address
 use Rattle.packet.specs.declared.Content.{Content}
 use Rattle.packet.specs.declared.Content.the-variants as content
 use Rattle.packet.specs.declared.Counting.the-variants as counting
-use Rattle.packet.specs.Table.{typeOf, rowOf, countBy}
+use Rattle.packet.specs.Table.{kinds, typeOf, rowOf, countBy}
 use Rattle.packet.specs.declared.Laid.{Laid}
 use Rattle.packet.specs.Content.{Parts, partsOf, contentOf, kindFor, numbersOf, numbersIn, countFor}
 use Rattle.packet.specs.Reading.{hasEntries, unknownBy, isUnknown, padded}
 use Rattle.packet.specs.InCode.{laidOf, room, cut}
 use Rattle.packet.proofs.ByType.{same-kind}
-use Rattle.packet.proofs.Each.{kinds, each-kind}
+use Rattle.packet.proofs.Each.{each-kind}
 use Rattle.packet.proofs.Good.{rawBy}
 
 -- a content comes back from its numbers, whatever stands after them, and its count

@@ -1,7 +1,6 @@
--- The list of kinds, and that what a computed test finds of all of them holds of each. Assumes nothing.
+-- What a computed test finds of all kinds holds of each. Assumes nothing.
 use mathlib.Core.Path.{_≡_}
 use mathlib.Core.Bool.{Bool, true}
-use mathlib.Core.List.{List, [], _∷_}
 use Prim.Native.Nat.{ℕ, _<_}
 use native.Mathlib.Omega.{arith}
 use lib.ListN.{getD}
@@ -9,9 +8,7 @@ use Rattle.laws.specs.Scan.{all}
 use Rattle.laws.proofs.Elements.{all-at}
 use Rattle.packet.specs.declared.Kind.{Kind}
 use Rattle.packet.specs.declared.Kind.the-variants.{Frequencies, Address, Keep, Clock, Reset, Factory, Drill, Text, Hold, Raw, Unknown}
-
-abbrev pub kinds : List Kind
-kinds = Frequencies ∷ Address ∷ Keep ∷ Clock ∷ Reset ∷ Factory ∷ Drill ∷ Text ∷ Hold ∷ Raw ∷ Unknown ∷ []
+use Rattle.packet.specs.Table.{kinds}
 
 module _ (P : Kind → Bool) (h : all P kinds ≡ true) where
   at : (i : ℕ) → i < 11 → P (getD kinds i Raw) ≡ true

@@ -13,10 +13,10 @@ use Rattle.format.specs.Format.{size, need, sound, unmet}
 use Rattle.packet.specs.declared.Kind.{Kind}
 use Rattle.packet.specs.declared.Counting.{Counting}
 use Rattle.packet.specs.declared.Counting.the-variants as counting
-use Rattle.packet.specs.Table.{rowOf}
+use Rattle.packet.specs.Table.{kinds, rowOf}
 use Rattle.packet.specs.Content.{numbersIn}
 use Rattle.packet.specs.Reading.{partAt, hasEntries}
-use Rattle.packet.proofs.Each.{kinds, each-kind}
+use Rattle.packet.proofs.Each.{each-kind}
 
 -- a raw content, and one with nothing repeated
 abbrev pub rawBy : Counting → Bool

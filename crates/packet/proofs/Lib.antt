@@ -8,3 +8,4 @@ pub mod Good
 pub mod Contents
 pub mod Bytes
 pub mod Lent
+pub mod Spans

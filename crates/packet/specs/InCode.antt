@@ -1,33 +1,72 @@
--- The code's tables are those of Table (01, Packet): the first m of six lines, and behind them lines of no number; and its contents, as plain numbers and back.
-use mathlib.Core.Path.{_≡_}
+-- The code's table is that of Table (01, Packet), as one list of lines, of which a row names parts; and its contents, as plain numbers and back.
 use mathlib.Core.Bool.{cond}
 use mathlib.Core.List.{List, [], _∷_, _++_}
-use Prim.Native.Nat.{ℕ, _-_, _%_, _≤_}
-use lib.Dec.{leb}
+use Prim.Native.Nat.{ℕ, _+_, _%_, _≤_}
+use lib.Dec.{leb, eqb}
 use lib.ListN.{length, take, drop, replicate}
-use Rattle.format.specs.Format.{octets}
+use Rattle.format.specs.Format.{size, need}
 use Rattle.format.specs.declared.Line.{Line}
 use Rattle.packet.specs.declared.Lines.{Lines}
 use Rattle.packet.specs.declared.RowLines.{RowLines}
 use Rattle.packet.specs.declared.Kind.{Kind}
 use Rattle.packet.specs.declared.Content.{Content}
 use Rattle.packet.specs.declared.Laid.{Laid}
-use Rattle.packet.specs.Table.{Row, rowOf}
+use Rattle.packet.specs.Table.{kinds, typeOf, Row, rowOf, code, ending}
 use Rattle.packet.specs.Content.{contentOf, partsOf, kindFor, numbersOf}
 use Rattle.packet.specs.Reading.{padded}
 
--- a list of six in code stands for the lines ts
-pub record Listed (r : Lines) (ts : List Line) : Type 0 where
-  pub lines : take (r .m) (r .all) ≡ ts
-  pub few : r .m ≤ 6
-  pub rest : drop (r .m) (r .all) ≡ replicate (6 - r .m) (octets 0)
+-- ---- the table as one list of lines: a code's, those of what follows the content, and each row's, kind by kind
+abbrev pub linesOf : Row → List Line
+linesOf r = r .before ++ (r .each ++ r .after)
 
--- a row in code stands for a row of the table
-pub record StandsFor (r : RowLines) (t : Row) : Type 0 where
-  pub same : r .counting ≡ t .counting
-  pub first : Listed (r .before) (t .before)
-  pub rows : Listed (r .each) (t .each)
-  pub last : Listed (r .after) (t .after)
+-- those of several kinds
+unfoldable pub linesOfEach : List Kind → List Line
+linesOfEach [] = []
+linesOfEach (f ∷ fs) = linesOf (rowOf f) ++ linesOfEach fs
+
+-- all of them
+unfoldable pub everyLine : List Line
+everyLine = code ++ (ending ++ linesOfEach kinds)
+
+-- ---- where lines stand in it
+-- so many lines of these kinds come before the kind's own
+unfoldable pub linesUpTo : Kind → List Kind → ℕ
+linesUpTo f [] = 0
+linesUpTo f (g ∷ gs) = cond (eqb (typeOf g) (typeOf f)) 0 (length (linesOf (rowOf g)) + linesUpTo f gs)
+
+-- the place where a kind's lines begin
+abbrev pub placeOf : Kind → ℕ
+placeOf f = length code + (length ending + linesUpTo f kinds)
+
+-- lines that begin at a place
+abbrev pub spanAt : ℕ → List Line → Lines
+spanAt p ts = record { from = p; m = length ts; bits = size ts; numbers = need ts }
+
+-- those of a code
+unfoldable pub codeAt : Lines
+codeAt = spanAt 0 code
+
+-- those of what follows the content
+unfoldable pub endingAt : Lines
+endingAt = spanAt (length code) ending
+
+-- a kind's row in code
+unfoldable pub rowAt : Kind → RowLines
+rowAt f =
+    record {
+      counting = rowOf f .counting;
+      before = spanAt (placeOf f) (rowOf f .before);
+      each = spanAt (placeOf f + length (rowOf f .before)) (rowOf f .each);
+      after = spanAt (placeOf f + length (rowOf f .before) + length (rowOf f .each)) (rowOf f .after);
+    }
+
+-- the lines that stand at a place
+abbrev pub linesIn : Lines → List Line
+linesIn ts = take (ts .m) (drop (ts .from) everyLine)
+
+-- at most six lines, all of them there
+abbrev pub Stands : Lines → Type 0
+Stands ts = (ts .m ≤ 6) × (ts .from + ts .m ≤ length everyLine)
 
 -- ---- a content as plain numbers: its own, then zeros up to six
 abbrev pub laidOf : Content → Laid

@@ -38,6 +38,10 @@ kindOf t =
 abbrev pub onlyRead : ℕ → Bool
 onlyRead t = eqb t 16
 
+-- the kinds
+abbrev pub kinds : List Kind
+kinds = Frequencies ∷ Address ∷ Keep ∷ Clock ∷ Reset ∷ Factory ∷ Drill ∷ Text ∷ Hold ∷ Raw ∷ Unknown ∷ []
+
 -- a type of each kind, for comparing kinds: the only one, but for Raw and Unknown (000, table 2)
 abbrev pub typeOf : Kind → ℕ
 typeOf Frequencies = 0

@@ -8,7 +8,6 @@ ghost use Rattle.packet.specs.Table.{kindOf, typeOf};
 ghost use Rattle.packet.specs.InCode.{laidOf, namedBy};
 ghost use Rattle.packet.specs.Content.{noSuchDay};
 ghost use Rattle.packet.specs.declared.Kind.the-variants as kind;
-use format::Line;
 
 // The kinds of content (000, tables 3 to 6, 13 to 16 and 18); Raw is carried unopened, Unknown refused.
 pub enum Kind {
@@ -33,10 +32,12 @@ pub enum Counting {
     Unknown,
 }
 
-// The lines of a table, the first m of six.
+// Lines that stand one behind the other in the table: where, how many, their bits, and their own numbers.
 pub struct Lines {
+    pub from: usize,
     pub m: usize,
-    pub all: [Line; 6],
+    pub bits: usize,
+    pub numbers: usize,
 }
 
 // A row of the table of contents: lines, a row that is repeated, lines.

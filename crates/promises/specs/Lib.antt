@@ -1,4 +1,3 @@
 pub mod Pier
 pub mod Exactly
 pub mod Run
-pub mod Sixes

@@ -1,3 +1,4 @@
 pub mod Rows
 pub mod Taking
 pub mod Whole
+pub mod Due

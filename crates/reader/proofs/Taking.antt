@@ -22,11 +22,11 @@ use Rattle.format.proofs.Sound.{sound-is}
 use Rattle.packet.specs.declared.Kind.{Kind}
 use Rattle.packet.specs.declared.Content.{Content}
 use Rattle.packet.specs.declared.Laid.{Laid}
-use Rattle.packet.specs.Table.{rowOf}
+use Rattle.packet.specs.Table.{kinds, rowOf}
 use Rattle.packet.specs.Content.{contentOf, numbersOf, numbersIn}
 use Rattle.packet.specs.Reading.{numbersAt, zeros, padded}
 use Rattle.packet.specs.InCode.{laidOf, widths, room, cut, namedBy}
-use Rattle.packet.proofs.Each.{kinds, each-kind}
+use Rattle.packet.proofs.Each.{each-kind}
 use Rattle.packet.proofs.Good.{good}
 use Rattle.packet.proofs.Contents.{length-back}
 use Rattle.reader.specs.Taking.{ownAt, Held, ofByte, Digits}
@@ -154,6 +154,10 @@ padded-is m xs h =
 
 pub take-front : (l xs : List ℕ) (w : ℕ) → length xs ≡ w → w ≤ length l → take w (sets l 0 xs) ≡ xs
 take-front l xs w e h = ap (take w) (from-front xs l (omega arith)) ∙ take-at xs (drop (length xs) l) w e
+
+-- numbers that were read to an array of bytes first
+pub by-bytes : (z few o o″ l : List ℕ) (p n i : ℕ) → length z ≡ 64 → n ≤ 64 → few ≡ sets z 0 (run l p n 4) → o″ ≡ sets o i (take n few) → o″ ≡ sets o i (run l p n 4)
+by-bytes z few o o″ l p n i k h f e = e ∙ ap (sets o i) (ap (take n) f ∙ take-front z (run l p n 4) n (length-run l p n 4) (omega arith))
 
 -- ---- a content by its numbers
 -- numbers that fit their lines, whatever stands behind them, are not cut

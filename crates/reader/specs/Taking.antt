@@ -8,9 +8,9 @@ use lib.ListN.{length, getD, take, drop}
 use Rattle.laws.specs.Bits.{run, bits, Under}
 use Rattle.laws.specs.Scan.{all}
 use Rattle.format.specs.declared.Line.{Line}
-use Rattle.format.specs.Format.{size, need, sound}
+use Rattle.format.specs.Format.{size, need}
 use Rattle.packet.specs.declared.Lines.{Lines}
-use Rattle.packet.specs.InCode.{widths}
+use Rattle.packet.specs.InCode.{linesIn, Stands, widths}
 
 -- the own numbers of a line that begins at place p
 abbrev pub ownAt : Line → List ℕ → ℕ → List ℕ
@@ -26,12 +26,11 @@ ofByte w = leb w 8
 
 -- n rows of lines from place p on, each of s bits and w numbers, of a byte at most
 pub record Rows (ts : Lines) (s w n p : ℕ) : Type 0 where
-  pub few : ts .m ≤ 6
-  pub lines : all sound (take (ts .m) (ts .all)) ≡ true
-  pub narrow : all ofByte (widths (take (ts .m) (ts .all))) ≡ true
-  pub sized : s ≡ size (take (ts .m) (ts .all))
+  pub few : Stands ts
+  pub narrow : all ofByte (widths (linesIn ts)) ≡ true
+  pub sized : s ≡ size (linesIn ts)
   pub short : s ≤ 40
-  pub each : w ≡ need (take (ts .m) (ts .all))
+  pub each : w ≡ need (linesIn ts)
   pub small : w ≤ 8
   pub many : n < 256
   pub place : p < 25000

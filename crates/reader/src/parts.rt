@@ -1,13 +1,13 @@
 // The parts of a packet: heading, codes, content and what follows.
 ghost use mathlib.Core.Path.{_≡_};
-ghost use mathlib.Core.Bool.{true, cond};
+ghost use mathlib.Core.Bool.{cond};
 ghost use mathlib.Core.List.{[], _++_};
 ghost use Prim.Native.Nat.{_+_, _-_, _*_, _<_, _≤_};
 ghost use lib.ListN.{length, take, drop};
 ghost use Rattle.laws.specs.Bits.{at, run, bits};
-ghost use Rattle.laws.specs.Scan.{all};
-ghost use Rattle.format.specs.Format.{times, size, sound};
+ghost use Rattle.format.specs.Format.{times, size};
 ghost use Rattle.packet.specs.Table.{rowOf, countIn};
+ghost use Rattle.packet.specs.InCode.{linesIn, Stands};
 ghost use Rattle.packet.specs.Content.{contentOf, numbersIn};
 ghost use Rattle.packet.specs.Reading.{typeIn, codesIn, kindIn, contentSize, countOf, partAt, numbersAt, contentIn, digitsIn, zeros, padded, codesOf, bodyIn, hasEntries};
 ghost use Rattle.reader.specs.Taking.{Digits};
@@ -134,8 +134,8 @@ pub(crate) fn bytes_count(b: &[u8]) -> usize
 // ---- the content
 // The numbers of lines from bit p on, then zeros.
 fn numbers_at(ts: Lines, b: &[u8], p: usize) -> [u32; 41]
-    requires { ⌜ (ts .m ≤ 6) × (all sound (take (ts .m) (ts .all)) ≡ true) × (p < 37000) ⌝ }
-    ensures { λ r. ⌜ r ≡ padded 41 (numbersAt (take (ts .m) (ts .all)) (now (b .entry)) p) ⌝ }
+    requires { ⌜ Stands ts × (p < 37000) ⌝ }
+    ensures { λ r. ⌜ r ≡ padded 41 (numbersAt (linesIn ts) (now (b .entry)) p) ⌝ }
 {
     let mut all = numbers::zeros41();
     numbers::take_lines(ts, b, p, &mut all);

@@ -1,13 +1,14 @@
 // What is wrong with a packet: the answers 20, 23, 26, 24, 25 and 27, in that order.
 ghost use mathlib.Core.Path.{_≡_};
 ghost use mathlib.Core.Bool.{_&&_, false};
-ghost use Prim.Native.Nat.{_<_, _≤_};
+ghost use Prim.Native.Nat.{ℕ, _<_, _≤_};
 ghost use lib.ListN.{length, drop};
 ghost use Rattle.laws.specs.Bits.{bits};
 ghost use Rattle.format.specs.Format.{times, decode, fine};
 ghost use Rattle.packet.specs.Table.{rowOf, code, ending, contentLines};
 ghost use Rattle.laws.specs.Refusals.{first};
 ghost use Rattle.packet.specs.Reading.{kindIn, countOf, sizeBad, lengthBad, tableOf, valuesIn, readCases, readAnswer};
+ghost use Rattle.reader.specs.Due.{Judged};
 use crate::lines;
 use crate::parts;
 use packet::Kind;
@@ -41,10 +42,10 @@ fn length_bad(b: &[u8]) -> bool
     z.lead + k * z.each + z.rest != 8 * m
 }
 
-// No line of a content from bit q on is due the answer a.
-fn content_fine(a: u8, f: Kind, k: usize, b: &[u8], q: usize) -> bool
-    requires { ⌜ (a ≡ 26 → ⊥) × (k < 256) × (q < 2000) ⌝ }
-    ensures { λ r. ⌜ r ≡ fine a (contentLines (rowOf f) k) (decode (contentLines (rowOf f) k) (bits (now (b .entry))) q) ⌝ }
+// What the lines of a content from bit q on are due.
+fn content_due(f: Kind, k: usize, b: &[u8], q: usize) -> u8
+    requires { ⌜ (k < 256) × (q < 2000) ⌝ }
+    ensures { λ r. ⌜ Judged (λ (a : ℕ). fine a (contentLines (rowOf f) k) (decode (contentLines (rowOf f) k) (bits (now (b .entry))) q)) r ⌝ }
 {
     let s = table::row_of(f);
     let before = s.before;
@@ -52,40 +53,33 @@ fn content_fine(a: u8, f: Kind, k: usize, b: &[u8], q: usize) -> bool
     let after = s.after;
     let z = table::sizes_of(f);
     let p = q + z.lead;
-    if !lines::lines_fine(a, before, b, q) {
-        return false;
-    }
-    if !lines::rows_fine(a, each, z.each, k, b, p) {
-        return false;
-    }
-    lines::lines_fine(a, after, b, p + k * z.each)
+    let first = lines::lines_due(before, b, q);
+    let rows = lines::rows_due(each, z.each, k, b, p);
+    let last = lines::lines_due(after, b, p + k * z.each);
+    lines::least(first, lines::least(rows, last))
 }
 
-// No line of the codes, and none of what follows the content, which ends at bit e.
-fn frame_fine(a: u8, n: usize, b: &[u8], e: usize) -> bool
+// And those of the codes, and of what follows the content, which ends at bit e.
+fn frame_due(n: usize, b: &[u8], e: usize) -> u8
     requires { ⌜ (n < 15) × (e < 2000) ⌝ }
-    ensures { λ r. ⌜ r ≡ (fine a (times n code) (decode (times n code) (bits (now (b .entry))) 24) && fine a ending (decode ending (bits (now (b .entry))) e)) ⌝ }
+    ensures { λ r. ⌜ Judged (λ (a : ℕ). fine a (times n code) (decode (times n code) (bits (now (b .entry))) 24) && fine a ending (decode ending (bits (now (b .entry))) e)) r ⌝ }
 {
     let code = table::code_lines();
     let ending = table::ending_lines();
-    if !lines::rows_fine(a, code, 96, n, b, 24) {
-        return false;
-    }
-    lines::lines_fine(a, ending, b, e)
+    let codes = lines::rows_due(code, 96, n, b, 24);
+    lines::least(codes, lines::lines_due(ending, b, e))
 }
 
-// No line of the packet, whose kind and count are handed on and whose sizes are right.
-fn packet_fine(a: u8, f: Kind, k: usize, b: &[u8]) -> bool
-    requires { ⌜ (a ≡ 26 → ⊥) × (f ≡ kindIn (now b)) × (k ≡ countOf (now b)) × (sizeBad (now b) ≡ false) × (lengthBad (now b) ≡ false) ⌝ }
-    ensures { λ r. ⌜ r ≡ fine a (tableOf (now (b .entry))) (valuesIn (now (b .entry))) ⌝ }
+// And those of a packet, whose kind and count are handed on and whose sizes are right.
+fn packet_due(f: Kind, k: usize, b: &[u8]) -> u8
+    requires { ⌜ (f ≡ kindIn (now b)) × (k ≡ countOf (now b)) × (sizeBad (now b) ≡ false) × (lengthBad (now b) ≡ false) ⌝ }
+    ensures { λ r. ⌜ Judged (λ (a : ℕ). fine a (tableOf (now (b .entry))) (valuesIn (now (b .entry)))) r ⌝ }
 {
     let n = parts::codes_count(b);
     let m = parts::content_size(b);
     let q = 24 + 96 * n;
-    if !frame_fine(a, n, b, q + 8 * m) {
-        return false;
-    }
-    content_fine(a, f, k, b, q)
+    let d = frame_due(n, b, q + 8 * m);
+    lines::least(d, content_due(f, k, b, q))
 }
 
 // What the lines of a packet, whose sizes are right, are due: 24, 25 or 27.
@@ -95,14 +89,9 @@ fn lines_answer(b: &[u8]) -> u8
 {
     let f = parts::kind(b);
     let k = parts::count(b);
-    if !packet_fine(24, f, k, b) {
-        return 24;
-    }
-    if !packet_fine(25, f, k, b) {
-        return 25;
-    }
-    if !packet_fine(27, f, k, b) {
-        return 27;
+    let d = packet_due(f, k, b);
+    if d != 255 {
+        return d;
     }
     if packet::no_such_day(parts::content(b)) {
         return 27;

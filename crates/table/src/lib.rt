@@ -1,173 +1,141 @@
-// The table of contents in code: the row of each kind, the lines of a code and of the ending, and what is read off a row.
-mod measures;
+// The table of contents in code: every line of it, the row of each kind, and what is read off a row.
 mod rows;
 
 ghost use mathlib.Core.Path.{_≡_};
-ghost use Rattle.packet.specs.Table.{rowOf, code, ending};
-ghost use Rattle.packet.specs.InCode.{Listed, StandsFor};
-ghost use Rattle.packet.specs.Reading.{sizesOf, isUnknown, hasEntries};
+ghost use lib.ListN.{getD};
+ghost use Rattle.format.specs.Format.{octets};
+ghost use Rattle.packet.specs.InCode.{everyLine, rowAt, codeAt, endingAt};
+ghost use Rattle.packet.specs.Reading.{countSize, sizesOf, isUnknown, hasEntries};
 ghost use Rattle.packet.specs.Writing.{notWritten};
-ghost use Rattle.packet.specs.declared.Kind.the-variants as kind;
+use format::Line;
 use packet::Counting;
 use packet::Kind;
 use packet::Lines;
 use packet::RowLines;
 use packet::Sizes;
 
+// Every line of the table: a code's, those of what follows the content, and each row's, kind by kind.
+pub fn line_at(i: usize) -> Line
+    ensures { λ r. ⌜ r ≡ getD everyLine i (octets 0) ⌝ }
+{
+    match i {
+        0 => rows::a_ones(4, 15),
+        1 => rows::a_digits(23),
+        2 => rows::an_any(32, 4294967295),
+        3 => rows::a_digits(12),
+        4 => rows::an_octets(64),
+        // Type 0, table 3.
+        5 => rows::a_num(8, 1, 255),
+        6 => rows::an_any(8, 255),
+        7 => rows::a_digits(6),
+        // Type 1, table 4.
+        8 => rows::an_octets(1),
+        9 => rows::a_ones(4, 15),
+        10 => rows::a_digits(23),
+        // Type 2, table 5.
+        11 => rows::a_num(8, 0, 1),
+        12 => rows::an_any(16, 65535),
+        // Type 3, table 6.
+        13 => rows::an_any(16, 65535),
+        14 => rows::a_num(8, 1, 12),
+        15 => rows::a_num(8, 1, 31),
+        16 => rows::a_num(8, 0, 23),
+        17 => rows::a_num(8, 0, 59),
+        18 => rows::a_num(8, 0, 59),
+        // Type 12, table 13.
+        19 => rows::an_only(2, 1),
+        20 => rows::a_num(2, 1, 2),
+        21 => rows::a_ones(4, 15),
+        22 => rows::a_digits(6),
+        // Type 13, table 14.
+        23 => rows::an_only(2, 1),
+        24 => rows::a_ones(6, 63),
+        // Type 14, table 15.
+        25 => rows::an_only(4, 1),
+        26 => rows::a_num(4, 1, 2),
+        27 => rows::a_ones(4, 15),
+        28 => rows::a_digits(35),
+        // Type 15, table 16.
+        29 => rows::a_num(4, 1, 3),
+        30 => rows::a_num(4, 0, 4),
+        31 => rows::a_ones(4, 15),
+        32 => rows::a_digits(35),
+        33 => rows::an_octets(1),
+        // Type 21, table 18.
+        34 => rows::an_any(8, 255),
+        35 => rows::a_ones(8, 255),
+        // Types 4 to 8, 11, 22 to 24, and 16, which old shelves still hold: bytes as they are.
+        36 => rows::an_octets(1),
+        _ => rows::an_octets(0),
+    }
+}
+
 // A resource code, and what follows the content.
 pub fn code_lines() -> Lines
-    ensures { λ r. ⌜ Listed r code ⌝ }
+    ensures { λ r. ⌜ r ≡ codeAt ⌝ }
 {
-    rows::two_lines(rows::a_ones(4, 15), rows::a_digits(23))
+    rows::span(0, 2, 96, 23)
 }
 
 pub fn ending_lines() -> Lines
-    ensures { λ r. ⌜ Listed r ending ⌝ }
+    ensures { λ r. ⌜ r ≡ endingAt ⌝ }
 {
-    rows::three_lines(
-        rows::an_any(32, 4294967295),
-        rows::a_digits(12),
-        rows::an_octets(64),
-    )
+    rows::span(2, 3, 592, 77)
 }
 
-// Type 0, table 3.
-fn frequencies() -> RowLines
-    ensures { λ r. ⌜ StandsFor r (rowOf kind.Frequencies) ⌝ }
-{
-    let entry = rows::three_lines(
-        rows::a_num(8, 1, 255),
-        rows::an_any(8, 255),
-        rows::a_digits(6),
-    );
-    let none = rows::no_lines();
-    rows::counted_row(none, entry, none)
-}
-
-// Type 1, table 4.
-fn address() -> RowLines
-    ensures { λ r. ⌜ StandsFor r (rowOf kind.Address) ⌝ }
-{
-    let device = rows::two_lines(rows::a_ones(4, 15), rows::a_digits(23));
-    let octet = rows::one_line(rows::an_octets(1));
-    rows::counted_row(rows::no_lines(), octet, device)
-}
-
-// Type 2, table 5.
-fn keep() -> RowLines
-    ensures { λ r. ⌜ StandsFor r (rowOf kind.Keep) ⌝ }
-{
-    rows::fixed_row(rows::two_lines(rows::a_num(8, 0, 1), rows::an_any(16, 65535)))
-}
-
-// Type 3, table 6.
-fn clock() -> RowLines
-    ensures { λ r. ⌜ StandsFor r (rowOf kind.Clock) ⌝ }
-{
-    rows::fixed_row(rows::six_lines(
-        rows::an_any(16, 65535),
-        rows::a_num(8, 1, 12),
-        rows::a_num(8, 1, 31),
-        rows::a_num(8, 0, 23),
-        rows::a_num(8, 0, 59),
-        rows::a_num(8, 0, 59),
-    ))
-}
-
-// Type 12, table 13.
-fn reset() -> RowLines
-    ensures { λ r. ⌜ StandsFor r (rowOf kind.Reset) ⌝ }
-{
-    rows::fixed_row(rows::four_lines(
-        rows::an_only(2, 1),
-        rows::a_num(2, 1, 2),
-        rows::a_ones(4, 15),
-        rows::a_digits(6),
-    ))
-}
-
-// Type 13, table 14.
-fn factory() -> RowLines
-    ensures { λ r. ⌜ StandsFor r (rowOf kind.Factory) ⌝ }
-{
-    rows::fixed_row(rows::two_lines(rows::an_only(2, 1), rows::a_ones(6, 63)))
-}
-
-// Type 14, table 15.
-fn drill() -> RowLines
-    ensures { λ r. ⌜ StandsFor r (rowOf kind.Drill) ⌝ }
-{
-    rows::fixed_row(rows::four_lines(
-        rows::an_only(4, 1),
-        rows::a_num(4, 1, 2),
-        rows::a_ones(4, 15),
-        rows::a_digits(35),
-    ))
-}
-
-// Type 15, table 16.
-fn text() -> RowLines
-    ensures { λ r. ⌜ StandsFor r (rowOf kind.Text) ⌝ }
-{
-    let head = rows::four_lines(
-        rows::a_num(4, 1, 3),
-        rows::a_num(4, 0, 4),
-        rows::a_ones(4, 15),
-        rows::a_digits(35),
-    );
-    let octet = rows::one_line(rows::an_octets(1));
-    rows::counted_row(head, octet, rows::no_lines())
-}
-
-// Type 21, table 18.
-fn hold() -> RowLines
-    ensures { λ r. ⌜ StandsFor r (rowOf kind.Hold) ⌝ }
-{
-    rows::fixed_row(rows::two_lines(rows::an_any(8, 255), rows::a_ones(8, 255)))
-}
-
-// Types 4 to 8, 11, 22 to 24, and 16, which old shelves still hold: bytes as they are.
-fn raw() -> RowLines
-    ensures { λ r. ⌜ StandsFor r (rowOf kind.Raw) ⌝ }
-{
-    let octet = rows::one_line(rows::an_octets(1));
-    let none = rows::no_lines();
-    RowLines {
-        counting: Counting::Raw,
-        before: none,
-        each: octet,
-        after: none,
-    }
-}
-
-fn unknown() -> RowLines
-    ensures { λ r. ⌜ StandsFor r (rowOf kind.Unknown) ⌝ }
-{
-    let none = rows::no_lines();
-    RowLines {
-        counting: Counting::Unknown,
-        before: none,
-        each: none,
-        after: none,
-    }
-}
-
-// The row of a kind in the table of contents.
+// The row of a kind in the table of contents: where its lines stand, how many they are, their bits, their own numbers.
 pub fn row_of(f: Kind) -> RowLines
-    ensures { λ r. ⌜ StandsFor r (rowOf f) ⌝ }
+    ensures { λ r. ⌜ r ≡ rowAt f ⌝ }
 {
     match f {
-        Kind::Frequencies => frequencies(),
-        Kind::Address => address(),
-        Kind::Keep => keep(),
-        Kind::Clock => clock(),
-        Kind::Reset => reset(),
-        Kind::Factory => factory(),
-        Kind::Drill => drill(),
-        Kind::Text => text(),
-        Kind::Hold => hold(),
-        Kind::Raw => raw(),
-        Kind::Unknown => unknown(),
+        Kind::Frequencies => rows::a_row(
+            Counting::Counted,
+            rows::span(5, 0, 0, 0),
+            rows::span(5, 3, 40, 8),
+            rows::span(8, 0, 0, 0),
+        ),
+        Kind::Address => rows::a_row(
+            Counting::Counted,
+            rows::span(8, 0, 0, 0),
+            rows::span(8, 1, 8, 1),
+            rows::span(9, 2, 96, 23),
+        ),
+        Kind::Keep => rows::fixed_row(11, 2, 24, 2),
+        Kind::Clock => rows::fixed_row(13, 6, 56, 6),
+        Kind::Reset => rows::fixed_row(19, 4, 32, 7),
+        Kind::Factory => rows::fixed_row(23, 2, 8, 0),
+        Kind::Drill => rows::fixed_row(25, 4, 152, 36),
+        Kind::Text => rows::a_row(
+            Counting::Counted,
+            rows::span(29, 4, 152, 37),
+            rows::span(33, 1, 8, 1),
+            rows::span(34, 0, 0, 0),
+        ),
+        Kind::Hold => rows::fixed_row(34, 2, 16, 1),
+        Kind::Raw => rows::a_row(
+            Counting::Raw,
+            rows::span(36, 0, 0, 0),
+            rows::span(36, 1, 8, 1),
+            rows::span(37, 0, 0, 0),
+        ),
+        Kind::Unknown => rows::a_row(
+            Counting::Unknown,
+            rows::span(37, 0, 0, 0),
+            rows::span(37, 0, 0, 0),
+            rows::span(37, 0, 0, 0),
+        ),
+    }
+}
+
+// The bits of the count, where there is one.
+fn count_bits(counting: Counting) -> usize
+    ensures { λ r. ⌜ r ≡ countSize counting ⌝ }
+{
+    match counting {
+        Counting::Fixed => 0,
+        Counting::Counted => 8,
+        Counting::Raw => 0,
+        Counting::Unknown => 0,
     }
 }
 
@@ -180,16 +148,13 @@ pub fn sizes_of(f: Kind) -> Sizes
     let before = s.before;
     let each = s.each;
     let after = s.after;
-    let a = measures::of_lines(before);
-    let e = measures::of_lines(each);
-    let z = measures::of_lines(after);
     Sizes {
-        lead: a.bits + measures::count_bits(counting),
-        each: e.bits,
-        rest: z.bits,
-        first: a.numbers,
-        row: e.numbers,
-        last: z.numbers,
+        lead: before.bits + count_bits(counting),
+        each: each.bits,
+        rest: after.bits,
+        first: before.numbers,
+        row: each.numbers,
+        last: after.numbers,
     }
 }
 

@@ -1,11 +1,8 @@
 // Lines, and rows of them, as the table of contents is written.
 ghost use mathlib.Core.Path.{_≡_};
-ghost use mathlib.Core.List.{[], _∷_};
-ghost use Prim.Native.Nat.{_-_, _^_};
-ghost use lib.ListN.{take};
+ghost use Prim.Native.Nat.{_+_, _-_, _^_, _≤_};
 ghost use Rattle.format.specs.Format.{num, only, any, ones, digits, octets};
-ghost use Rattle.packet.specs.InCode.{Listed, StandsFor};
-ghost use Rattle.packet.specs.Table.{fixed, counted};
+ghost use Rattle.packet.specs.declared.Counting.the-variants as counting;
 use format::Line;
 use packet::Counting;
 use packet::Lines;
@@ -97,88 +94,36 @@ pub(crate) fn an_octets(n: usize) -> Line
     }
 }
 
-pub(crate) fn no_lines() -> Lines
-    ensures { λ r. ⌜ Listed r [] ⌝ }
-{
-    let z = an_octets(0);
-    Lines {
-        m: 0,
-        all: [z, z, z, z, z, z],
-    }
-}
-
-pub(crate) fn one_line(a: Line) -> Lines
-    ensures { λ r. ⌜ Listed r (a ∷ []) ⌝ }
-{
-    let z = an_octets(0);
-    Lines {
-        m: 1,
-        all: [a, z, z, z, z, z],
-    }
-}
-
-pub(crate) fn two_lines(a: Line, b: Line) -> Lines
-    ensures { λ r. ⌜ Listed r (a ∷ b ∷ []) ⌝ }
-{
-    let z = an_octets(0);
-    Lines {
-        m: 2,
-        all: [a, b, z, z, z, z],
-    }
-}
-
-pub(crate) fn three_lines(a: Line, b: Line, c: Line) -> Lines
-    ensures { λ r. ⌜ Listed r (a ∷ b ∷ c ∷ []) ⌝ }
-{
-    let z = an_octets(0);
-    Lines {
-        m: 3,
-        all: [a, b, c, z, z, z],
-    }
-}
-
-pub(crate) fn four_lines(a: Line, b: Line, c: Line, d: Line) -> Lines
-    ensures { λ r. ⌜ Listed r (a ∷ b ∷ c ∷ d ∷ []) ⌝ }
-{
-    let z = an_octets(0);
-    Lines {
-        m: 4,
-        all: [a, b, c, d, z, z],
-    }
-}
-
-pub(crate) fn six_lines(a: Line, b: Line, c: Line, d: Line, e: Line, f: Line) -> Lines
-    ensures { λ r. ⌜ Listed r (a ∷ b ∷ c ∷ d ∷ e ∷ f ∷ []) ⌝ }
+// m lines from the from-th on.
+pub(crate) fn span(from: usize, m: usize, bits: usize, numbers: usize) -> Lines
+    ensures { λ r. ⌜ r ≡ record { from = from; m = m; bits = bits; numbers = numbers } ⌝ }
 {
     Lines {
-        m: 6,
-        all: [a, b, c, d, e, f],
+        from: from,
+        m: m,
+        bits: bits,
+        numbers: numbers,
     }
 }
 
-// A content of these lines alone.
-pub(crate) fn fixed_row(ls: Lines) -> RowLines
-    requires { ⌜ Listed ls (take (ls .m) (ls .all)) ⌝ }
-    ensures { λ r. ⌜ StandsFor r (fixed (take (ls .m) (ls .all))) ⌝ }
-{
-    let none = no_lines();
-    RowLines {
-        counting: Counting::Fixed,
-        before: ls,
-        each: none,
-        after: none,
-    }
-}
-
-// A content with a count: lines, the count, a row as often as it says, lines.
-pub(crate) fn counted_row(ls: Lines, row: Lines, rest: Lines) -> RowLines
-    requires { ⌜ Listed ls (take (ls .m) (ls .all)) × Listed row (take (row .m) (row .all)) × Listed rest (take (rest .m) (rest .all)) ⌝ }
-    ensures { λ r. ⌜ StandsFor r (counted (take (ls .m) (ls .all)) (take (row .m) (row .all)) (take (rest .m) (rest .all))) ⌝ }
+// Lines, a row that is repeated, lines.
+pub(crate) fn a_row(counting: Counting, before: Lines, each: Lines, after: Lines) -> RowLines
+    ensures { λ r. ⌜ r ≡ record { counting = counting; before = before; each = each; after = after } ⌝ }
 {
     RowLines {
-        counting: Counting::Counted,
-        before: ls,
-        each: row,
-        after: rest,
+        counting: counting,
+        before: before,
+        each: each,
+        after: after,
     }
+}
+
+// A content of lines alone.
+pub(crate) fn fixed_row(from: usize, m: usize, bits: usize, numbers: usize) -> RowLines
+    requires { ⌜ from + m ≤ 1000 ⌝ }
+    ensures { λ r. ⌜ r ≡ record { counting = counting.Fixed; before = record { from = from; m = m; bits = bits; numbers = numbers }; each = record { from = from + m; m = 0; bits = 0; numbers = 0 }; after = record { from = from + m; m = 0; bits = 0; numbers = 0 } } ⌝ }
+{
+    let before = span(from, m, bits, numbers);
+    let none = span(from + m, 0, 0, 0);
+    a_row(Counting::Fixed, before, none, none)
 }

@@ -20,12 +20,12 @@ use Rattle.packet.specs.declared.Kind.the-variants.{Raw}
 use Rattle.packet.specs.declared.Content.{Content}
 use Rattle.packet.specs.declared.Counting.{Counting}
 use Rattle.packet.specs.declared.Counting.the-variants as counting
-use Rattle.packet.specs.Table.{rowOf, countLine, countBy, countIn, contentLines}
+use Rattle.packet.specs.Table.{kinds, rowOf, countLine, countBy, countIn, contentLines}
 use Rattle.packet.proofs.Column.{content-size}
 use Rattle.packet.specs.Content.{partsOf, kindFor, numbersIn, countFor}
 use Rattle.packet.specs.Reading.{partAt}
 use Rattle.packet.specs.Writing.{rowFor, digitsBefore, digitsAfter}
-use Rattle.packet.proofs.Each.{kinds, each-kind}
+use Rattle.packet.proofs.Each.{each-kind}
 use Rattle.packet.proofs.Good.{good}
 use Rattle.packet.proofs.Contents.{numbers-long, content-known, raw-only}
 use Rattle.trips.proofs.Fitting.{tight}

@@ -1,13 +1,13 @@
 -- What the answers 25 and 27 ask of a packet's table, part by part. Assumes nothing.
 use mathlib.Core.Path.{_≡_, refl, sym, ap, _∙_}
-use mathlib.Core.Bool.{Bool, true, false, _&&_}
+use mathlib.Core.Bool.{Bool, true, _&&_}
 use mathlib.Core.List.{List, [], _∷_, _++_}
 use Prim.Native.Nat.{ℕ, _*_}
-use lib.Dec.{leb}
 use lib.ListN.{length}
 use Rattle.laws.proofs.Cases.{and-yes}
 use Rattle.format.specs.declared.Line.{Line}
-use Rattle.format.specs.Format.{just, need, fill, times, inside, fine}
+use Rattle.format.specs.Format.{just, need, fill, times, fine}
+pub use Rattle.format.proofs.Halves.{inside-append}
 use Rattle.format.proofs.Tables.{fill-join, fine-join, length-fill, need-times}
 use Rattle.packet.specs.declared.Counting.{Counting}
 use Rattle.packet.specs.declared.Counting.the-variants as counting
@@ -20,16 +20,6 @@ use Rattle.writer.specs.Parts.{linesFor, Counts, frontFine, rowsFine, ba
 use Rattle.writer.proofs.Contents.{length-front}
 use Rattle.writer.proofs.Whole.{count-needs}
 use Rattle.writer.proofs.Together.{code-need, middle-long, in-order}
-
--- ---- numbers within a range, part by part
-pub inside-append : (lo hi : ℕ) (xs ys : List ℕ) → inside lo hi (xs ++ ys) ≡ (inside lo hi xs && inside lo hi ys)
-unfolding inside
-inside-append lo hi [] ys = refl
-inside-append lo hi (x ∷ xs) ys = rw (inside-append lo hi xs ys) (assoc (leb lo x && leb x hi) (inside lo hi xs) (inside lo hi ys))
-  where
-    assoc : (a b c : Bool) → (a && (b && c)) ≡ ((a && b) && c)
-    assoc true b c = refl
-    assoc false b c = refl
 
 -- ---- tables, part by part
 pub two-fine : (a : ℕ) (A B : List Line) (x y : List ℕ) → length x ≡ need A → fine a (A ++ B) (fill (A ++ B) (x ++ y)) ≡ (fine a A (fill A x) && fine a B (fill B y))

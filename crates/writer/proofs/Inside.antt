@@ -1,21 +1,21 @@
 -- Loops that test numbers against ranges: of a list, of a line, of lines, of rows of lines. Assumes nothing.
-use mathlib.Core.Path.{_≡_, sym, ap, _∙_}
-use mathlib.Core.Bool.{true, false, cond, _&&_}
+use mathlib.Core.Path.{_≡_, refl, sym, ap, _∙_}
+use mathlib.Core.Bool.{true, false, _&&_}
 use mathlib.Core.List.{List, _++_}
-use Prim.Native.Nat.{ℕ, suc, _+_, _-_, _*_, _<_, _≤_}
+use Prim.Native.Nat.{ℕ, zero, suc, _+_, _-_, _*_, _<_, _≤_}
 use native.Mathlib.Nat.{suc-mul}
 use native.Mathlib.Numerals.{add-one}
 use native.Mathlib.Omega.{arith}
-use lib.ListN.{length, getD, take, drop, length-drop, drop-of-length-le, take-append-drop}
-use lib.Seq.{drop-cons, drop-drop, length-take-le, take-take}
+use lib.ListN.{length, getD, take, drop, replicate, length-drop, drop-of-length-le, take-append-drop}
+use lib.Dec.{leb}
+use lib.Seq.{drop-cons, drop-drop, length-take-le, take-take, getD-take, getD-drop}
+use Rattle.laws.proofs.Elements.{by-test}
 use borrow.Author.Tests.{le-leb, lt-leb}
 use Rattle.format.specs.declared.Line.{Line}
 use Rattle.format.specs.Format.{own, need, inside, lineOk, fine, fill, times}
 use Rattle.format.proofs.Tables.{fill-join, fine-join, length-fill}
-use Rattle.format.proofs.Sound.{none}
+use Rattle.packet.proofs.Loops.{lines-cons}
 use Rattle.writer.specs.Puts.{valueOf}
-use Rattle.writer.proofs.Line.{length-value, number-at}
-use Rattle.writer.proofs.Lines.{cons}
 use Rattle.writer.proofs.Rows.{same-fill}
 
 -- ---- numbers
@@ -36,33 +36,50 @@ pub inside-end : (xs : List ℕ) (lo hi j : ℕ) → length xs ≤ j → inside 
 unfolding inside
 inside-end xs lo hi j h = rw (drop-of-length-le xs h)
 
--- ---- the numbers of a line, x being the j-th
-module _ (t : Line) (xs : List ℕ) (i : ℕ) (h : i + own t ≤ length xs) (j x : ℕ) (k : j < t .count) (e : x ≡ cond (t .given) (getD xs (i + j) 0) (t .lo)) where
-  here : x ≡ getD (valueOf t (drop i xs)) j 0
-  here = e ∙ number-at t xs i h j k
+-- ---- n numbers from the i-th on, x being the j-th
+module _ (xs : List ℕ) (i n lo hi j x : ℕ) (h : i + n ≤ length xs) (k : j < n) (e : x ≡ getD xs (i + j) 0) where
+  here : x ≡ getD (take n (drop i xs)) j 0
+  here = e ∙ sym (getD-take n (drop i xs) j 0 k ∙ getD-drop i xs j 0)
 
-  within : j < length (valueOf t (drop i xs))
-  within = omega (arith, length-value t xs i h)
+  within : j < length (take n (drop i xs))
+  within = omega (arith, length-take-le n (drop i xs) (omega (arith, length-drop i xs)))
 
-  pub line-low : x < t .lo → inside (t .lo) (t .hi) (drop j (valueOf t (drop i xs))) ≡ false
-  line-low l = inside-low (valueOf t (drop i xs)) (t .lo) (t .hi) j within (omega (arith, here))
+  pub between-low : x < lo → inside lo hi (drop j (take n (drop i xs))) ≡ false
+  between-low l = inside-low (take n (drop i xs)) lo hi j within (omega (arith, here))
 
-  pub line-high : t .lo ≤ x → t .hi < x → inside (t .lo) (t .hi) (drop j (valueOf t (drop i xs))) ≡ false
-  line-high l g = inside-high (valueOf t (drop i xs)) (t .lo) (t .hi) j within (omega (arith, here)) (omega (arith, here))
+  pub between-high : lo ≤ x → hi < x → inside lo hi (drop j (take n (drop i xs))) ≡ false
+  between-high l g = inside-high (take n (drop i xs)) lo hi j within (omega (arith, here)) (omega (arith, here))
 
-  pub line-next : t .lo ≤ x → x ≤ t .hi → inside (t .lo) (t .hi) (drop j (valueOf t (drop i xs))) ≡ inside (t .lo) (t .hi) (drop (j + 1) (valueOf t (drop i xs)))
-  line-next l g = inside-next (valueOf t (drop i xs)) (t .lo) (t .hi) j within (omega (arith, here)) (omega (arith, here))
+  pub between-next : lo ≤ x → x ≤ hi → inside lo hi (drop j (take n (drop i xs))) ≡ inside lo hi (drop (j + 1) (take n (drop i xs)))
+  between-next l g = inside-next (take n (drop i xs)) lo hi j within (omega (arith, here)) (omega (arith, here))
 
--- ---- lines, the first m of six
-module _ (a : ℕ) (ls : List Line) (m j : ℕ) (n : length ls ≡ 6) (h : m ≤ 6) where
-  pub lines-turn : j < m → (xs : List ℕ) (i : ℕ) → fine a (drop j (take m ls)) (fill (drop j (take m ls)) (drop i xs))
-      ≡ (lineOk a (getD ls j none) (valueOf (getD ls j none) (drop i xs)) && fine a (drop (j + 1) (take m ls)) (fill (drop (j + 1) (take m ls)) (drop (i + own (getD ls j none)) xs)))
-  unfolding fine fill
-  lines-turn k xs i = rw (cons ls m j n h k, drop-drop (own (getD ls j none)) i xs)
+-- the lowest number, again and again
+lowest-fine : (lo hi n : ℕ) → leb lo hi ≡ true → inside lo hi (replicate n lo) ≡ true
+unfolding inside
+lowest-fine lo hi zero e = refl
+lowest-fine lo hi (suc n) e = rw (le-leb lo lo (omega arith), e, lowest-fine lo hi n e)
 
-  pub lines-done : m ≤ j → (xs : List ℕ) → fine a (drop j (take m ls)) (fill (drop j (take m ls)) xs) ≡ true
-  unfolding fine
-  lines-done k xs = rw (drop-of-length-le (take m ls) {i = j} (omega (arith, length-take-le m ls (omega arith))))
+pub lowest : (lo hi n : ℕ) → (n ≡ 0 → ⊥) → leb lo hi ≡ inside lo hi (replicate n lo)
+unfolding inside
+lowest lo hi zero h = absurd (h refl)
+lowest lo hi (suc n) h =
+    by-test (leb lo hi)
+    (λ t. t ∙ sym (lowest-fine lo hi (suc n) t))
+    (λ t. t ∙ sym (rw (le-leb lo lo (omega arith), t)))
+
+pub none-inside : (lo hi n : ℕ) → n ≡ 0 → true ≡ inside lo hi (replicate n lo)
+unfolding inside
+none-inside lo hi n e = rw e
+
+-- ---- lines, t being the j-th
+pub lines-turn : (a : ℕ) (T : List Line) (j : ℕ) (d t : Line) → j < length T → t ≡ getD T j d → (xs : List ℕ) (i : ℕ) → fine a (drop j T) (fill (drop j T) (drop i xs))
+    ≡ (lineOk a t (valueOf t (drop i xs)) && fine a (drop (j + 1) T) (fill (drop (j + 1) T) (drop (i + own t) xs)))
+unfolding fine fill
+lines-turn a T j d t h e xs i = rw (lines-cons T j d t h e, drop-drop (own t) i xs)
+
+pub lines-done : (a : ℕ) (T : List Line) (j : ℕ) → length T ≤ j → (xs : List ℕ) → fine a (drop j T) (fill (drop j T) xs) ≡ true
+unfolding fine
+lines-done a T j k xs = rw (drop-of-length-le T {i = j} k)
 
 -- ---- rows of lines
 pub rows-turn : (a n j w : ℕ) (row : List Line) (wide xs : List ℕ) (i : ℕ) → j < n → need row ≡ w → w ≤ length wide → length xs ≡ i + (n - j) * w → take w wide ≡ take w (drop i xs)

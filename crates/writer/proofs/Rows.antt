@@ -7,6 +7,7 @@ use native.Mathlib.Numerals.{add-one}
 use native.Mathlib.Omega.{arith}
 use lib.ListN.{length, getD, set, take, drop, length-drop, length-set, take-append-drop, length-append}
 use lib.Seq.{sets, take-suc, take-suc-set, getD-drop, length-take-le, drop-drop, take-take}
+use Rattle.packet.specs.InCode.{linesIn}
 use Rattle.laws.specs.Bits.{bits, spread}
 use Rattle.laws.proofs.Bits.{length-spread}
 use Rattle.laws.proofs.Writes.{sets-append}
@@ -58,7 +59,7 @@ encode-size (t ∷ ts) xs h =
 
 -- ---- rows
 abbrev pub row : Lines → List Line
-row ts = take (ts .m) (ts .all)
+row ts = linesIn ts
 
 pub record Going (out₀ : List ℕ) (p : ℕ) (ts : Lines) (n w : ℕ) (xs out : List ℕ) (q i j : ℕ) : Type 0 where
   pub within : j ≤ n
@@ -86,7 +87,7 @@ pub puttable : (ts : Lines) (n w : ℕ) (xs : List ℕ) (p : ℕ) → Rows ts n 
 puttable ts n w xs p h wide q l k =
     let e = h .each in
     let m = h .narrow in
-    record { few = h .few; lines = h .lines; numbers = omega arith; brief = omega arith; place = k }
+    record { few = h .few; numbers = omega arith; brief = omega arith; place = k }
 
 pub going-turn : (out₀ : List ℕ) (p : ℕ) (ts : Lines) (n w : ℕ) (xs out last wide : List ℕ) (q i j r : ℕ) → Rows ts n w xs p → Going out₀ p ts n w xs out q i j → j < n
     → take w wide ≡ take w (drop i xs) → length wide ≡ 40 → After out last q (encode (row ts) (fill (row ts) wide)) r (size (row ts)) → Going out₀ p ts n w xs last r (i + w) (j + 1)

@@ -1,35 +1,33 @@
 -- The code's rows are the table's: what the writer asks of them, and what it then knows. Assumes nothing.
 use mathlib.Core.Path.{_≡_, sym, ap, ap₂, _∙_, subst}
-use mathlib.Core.Bool.{true}
 use mathlib.Core.List.{List, _++_}
 use Prim.Native.Nat.{ℕ, _+_, _*_, _<_, _≤_}
 use native.Mathlib.Omega.{arith}
-use lib.ListN.{length, take}
+use lib.ListN.{length}
 use lib.Seq.{sets}
+use Rattle.packet.specs.InCode.{linesIn}
+use Rattle.packet.proofs.Spans.{Listed}
 use Rattle.laws.specs.Bits.{bits}
-use Rattle.laws.specs.Scan.{all}
 use Rattle.laws.proofs.Writes.{sets-append}
 use Rattle.format.specs.declared.Line.{Line}
-use Rattle.format.specs.Format.{size, need, encode, fill, fine, times, sound}
+use Rattle.format.specs.Format.{size, need, encode, fill, fine, times}
 use Rattle.packet.specs.declared.Lines.{Lines}
-use Rattle.packet.specs.InCode.{Listed}
 use Rattle.writer.specs.Puts.{After, Puttable, Rows}
 
 module _ (ts : Lines) (ls : List Line) (h : Listed ts ls) where
-  pub can-put : all sound ls ≡ true → (xs : List ℕ) (p : ℕ) → need ls ≤ length xs → length xs ≤ 1000 → p < 30000 → Puttable ts xs p
-  can-put s xs p n b k =
-      record { few = h .few; lines = ap (all sound) (h .lines) ∙ s; numbers = subst (λ (l : List Line). need l ≤ length xs) (sym (h .lines)) n; brief = b; place = k }
+  pub can-put : (xs : List ℕ) (p : ℕ) → need ls ≤ length xs → length xs ≤ 1000 → p < 30000 → Puttable ts xs p
+  can-put xs p n b k =
+      record { few = h .few; numbers = subst (λ (l : List Line). need l ≤ length xs) (sym (h .lines)) n; brief = b; place = k }
 
-  pub have-put : (out last xs ys : List ℕ) (p r : ℕ) → fill ls xs ≡ fill ls ys → After out last p (encode (take (ts .m) (ts .all)) (fill (take (ts .m) (ts .all)) xs)) r (size (take (ts .m) (ts .all))) → After out last p (encode ls (fill ls ys)) r (size ls)
+  pub have-put : (out last xs ys : List ℕ) (p r : ℕ) → fill ls xs ≡ fill ls ys → After out last p (encode (linesIn ts) (fill (linesIn ts) xs)) r (size (linesIn ts)) → After out last p (encode ls (fill ls ys)) r (size ls)
   have-put out last xs ys p r e a =
       subst (λ (vs : List (List ℕ)). After out last p (encode ls vs) r (size ls)) e
       (subst (λ (l : List Line). After out last p (encode l (fill l xs)) r (size l)) (h .lines) a)
 
-  pub can-put-rows : all sound ls ≡ true → (n w : ℕ) (xs : List ℕ) (p : ℕ) → need ls ≡ w → w ≤ 40 → size ls ≤ 100 → n ≤ 255 → length xs ≡ n * w → p < 3000 → Rows ts n w xs p
-  can-put-rows s n w xs p e k z c l q =
+  pub can-put-rows : (n w : ℕ) (xs : List ℕ) (p : ℕ) → need ls ≡ w → w ≤ 40 → size ls ≤ 100 → n ≤ 255 → length xs ≡ n * w → p < 3000 → Rows ts n w xs p
+  can-put-rows n w xs p e k z c l q =
       record {
         few = h .few;
-        lines = ap (all sound) (h .lines) ∙ s;
         each = ap need (h .lines) ∙ e;
         narrow = k;
         short = subst (λ (l : List Line). size l ≤ 100) (sym (h .lines)) z;
@@ -38,16 +36,16 @@ module _ (ts : Lines) (ls : List Line) (h : Listed ts ls) where
         place = q;
       }
 
-  pub have-put-rows : (out last xs : List ℕ) (n p r : ℕ) → After out last p (encode (times n (take (ts .m) (ts .all))) (fill (times n (take (ts .m) (ts .all))) xs)) r (n * size (take (ts .m) (ts .all)))
+  pub have-put-rows : (out last xs : List ℕ) (n p r : ℕ) → After out last p (encode (times n (linesIn ts)) (fill (times n (linesIn ts)) xs)) r (n * size (linesIn ts))
       → After out last p (encode (times n ls) (fill (times n ls) xs)) r (n * size ls)
   have-put-rows out last xs n p r a =
       subst (λ (l : List Line). After out last p (encode (times n l) (fill (times n l) xs)) r (n * size l)) (h .lines) a
 
   -- and tested against them
-  pub have-fit : (a : ℕ) (xs ys : List ℕ) → fill ls xs ≡ fill ls ys → fine a (take (ts .m) (ts .all)) (fill (take (ts .m) (ts .all)) xs) ≡ fine a ls (fill ls ys)
+  pub have-fit : (a : ℕ) (xs ys : List ℕ) → fill ls xs ≡ fill ls ys → fine a (linesIn ts) (fill (linesIn ts) xs) ≡ fine a ls (fill ls ys)
   have-fit a xs ys e = rw (h .lines, e)
 
-  pub have-fit-rows : (a n : ℕ) (xs : List ℕ) → fine a (times n (take (ts .m) (ts .all))) (fill (times n (take (ts .m) (ts .all))) xs) ≡ fine a (times n ls) (fill (times n ls) xs)
+  pub have-fit-rows : (a n : ℕ) (xs : List ℕ) → fine a (times n (linesIn ts)) (fill (times n (linesIn ts)) xs) ≡ fine a (times n ls) (fill (times n ls) xs)
   have-fit-rows a n xs = rw (h .lines)
 
 -- one part behind another

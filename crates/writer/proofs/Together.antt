@@ -1,16 +1,14 @@
 -- A packet is its head, codes, content and ending, one behind the other. Assumes nothing.
 use mathlib.Core.Path.{_≡_, refl, sym, ap, _∙_, ap₂}
-use mathlib.Core.Bool.{true}
 use mathlib.Core.List.{List, _∷_, _++_, append-assoc, append-nil}
 use Prim.Native.Nat.{ℕ, _-_, _*_, _≤_, _+_}
 use native.Mathlib.Omega.{arith}
 use lib.ListN.{length, replicate, length-append}
 use lib.Seq.{sets, take-at, drop-at, take-all}
 use Rattle.laws.specs.Bits.{bits, bitsOf, spread}
-use Rattle.laws.specs.Scan.{all}
 use Rattle.laws.proofs.Bits.{length-bitsOf, length-spread}
 use Rattle.format.specs.declared.Line.{Line}
-use Rattle.format.specs.Format.{just, size, need, encode, fill, times, sound}
+use Rattle.format.specs.Format.{just, size, need, encode, fill, times}
 use Rattle.format.proofs.Tables.{size-times, need-append, need-times}
 use Rattle.packet.specs.declared.Content.{Content}
 use Rattle.packet.specs.declared.Fields.{Fields}
@@ -26,10 +24,6 @@ use Rattle.writer.proofs.Shapes.{then-put}
 use Rattle.writer.proofs.Whole.{two, count-needs, content-sizes, front-small, body-small, bodied}
 
 -- ---- a code's row
-pub code-sound : all sound code ≡ true
-unfolding all
-code-sound = refl
-
 pub code-need : need code ≡ 23
 unfolding need
 code-need = refl

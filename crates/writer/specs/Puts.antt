@@ -1,17 +1,17 @@
 -- What the functions under the packet writer ask of each other and give (ours, between functions).
 use mathlib.Core.Path.{_≡_}
-use mathlib.Core.Bool.{true, cond}
+use mathlib.Core.Bool.{cond}
 use mathlib.Core.List.{List, _++_}
 use Prim.Native.Nat.{ℕ, _+_, _*_, _<_, _≤_}
 use lib.ListN.{length, replicate, take}
 use lib.Seq.{sets}
 use Rattle.laws.specs.Bits.{bits}
-use Rattle.laws.specs.Scan.{all}
 use Rattle.format.specs.declared.Line.{Line}
-use Rattle.format.specs.Format.{need, size, sound}
+use Rattle.format.specs.Format.{need, size}
 use Rattle.packet.specs.declared.Lines.{Lines}
 use Rattle.packet.specs.declared.Content.{Content}
 use Rattle.packet.specs.Table.{rowOf, countBy}
+use Rattle.packet.specs.InCode.{linesIn, Stands}
 use Rattle.packet.specs.Content.{partsOf, kindFor, numbersOf}
 
 -- the numbers of a line, where xs are those at hand
@@ -25,19 +25,17 @@ pub record After (before after : List ℕ) (p : ℕ) (v : List ℕ) (r : ℕ) (s
 
 -- lines that can be put from bit p on, and enough numbers xs for them
 pub record Puttable (ts : Lines) (xs : List ℕ) (p : ℕ) : Type 0 where
-  pub few : ts .m ≤ 6
-  pub lines : all sound (take (ts .m) (ts .all)) ≡ true
-  pub numbers : need (take (ts .m) (ts .all)) ≤ length xs
+  pub few : Stands ts
+  pub numbers : need (linesIn ts) ≤ length xs
   pub brief : length xs ≤ 1000
   pub place : p < 30000
 
 -- n rows of lines, each of w numbers and at most 100 bits, from bit p on, and the numbers xs of all of them
 pub record Rows (ts : Lines) (n w : ℕ) (xs : List ℕ) (p : ℕ) : Type 0 where
-  pub few : ts .m ≤ 6
-  pub lines : all sound (take (ts .m) (ts .all)) ≡ true
-  pub each : need (take (ts .m) (ts .all)) ≡ w
+  pub few : Stands ts
+  pub each : need (linesIn ts) ≡ w
   pub narrow : w ≤ 40
-  pub short : size (take (ts .m) (ts .all)) ≤ 100
+  pub short : size (linesIn ts) ≤ 100
   pub count : n ≤ 255
   pub numbers : length xs ≡ n * w
   pub place : p < 3000

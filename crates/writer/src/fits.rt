@@ -4,22 +4,20 @@ ghost use mathlib.Core.Bool.{true};
 ghost use Prim.Native.Nat.{_+_, _≤_};
 ghost use lib.ListN.{length, take, drop};
 ghost use Rattle.format.specs.Format.{own, inside, lineOk, fine, fill, times, sound};
+ghost use Rattle.packet.specs.InCode.{linesIn};
 ghost use Rattle.writer.specs.Puts.{valueOf, Puttable, Rows};
 use crate::puts;
 use format::Line;
 use packet::Lines;
 
-// The numbers of a line are in its range.
-fn in_range(t: Line, xs: &[u32], i: usize) -> bool
-    requires { ⌜ (sound t ≡ true) × (i + own t ≤ length (now xs)) × (length (now xs) ≤ 1000) ⌝ }
-    ensures { λ r. ⌜ r ≡ inside (t .lo) (t .hi) (valueOf t (drop i (now (xs .entry)))) ⌝ }
+// n of the numbers xs from the i-th on are lo to hi.
+fn all_between(xs: &[u32], i: usize, n: usize, lo: u32, hi: u32) -> bool
+    requires { ⌜ i + n ≤ length (now xs) ⌝ }
+    ensures { λ r. ⌜ r ≡ inside lo hi (take n (drop i (now (xs .entry)))) ⌝ }
 {
-    let n = t.count;
-    let lo = t.lo;
-    let hi = t.hi;
     let mut j: usize = 0;
     while j < n {
-        let x = puts::number_of(t, xs, i + j);
+        let x = xs[i + j];
         if x < lo {
             return false;
         }
@@ -29,6 +27,21 @@ fn in_range(t: Line, xs: &[u32], i: usize) -> bool
         j += 1;
     }
     true
+}
+
+// The numbers of a line are in its range; where it has none of its own they are its lowest.
+fn in_range(t: Line, xs: &[u32], i: usize) -> bool
+    requires { ⌜ (sound t ≡ true) × (i + own t ≤ length (now xs)) × (length (now xs) ≤ 1000) ⌝ }
+    ensures { λ r. ⌜ r ≡ inside (t .lo) (t .hi) (valueOf t (drop i (now (xs .entry)))) ⌝ }
+{
+    let free = t.given;
+    if free {
+        return all_between(xs, i, t.count, t.lo, t.hi);
+    }
+    if t.count == 0 {
+        return true;
+    }
+    t.lo <= t.hi
 }
 
 // A line is no concern of the answer a, or its numbers are as it says.
@@ -43,14 +56,14 @@ fn line_fits(a: u8, t: Line, xs: &[u32], i: usize) -> bool
 // No line with the numbers xs is due the answer a.
 pub(crate) fn lines_fit(a: u8, ts: Lines, xs: &[u32]) -> bool
     requires { ⌜ Puttable ts (now xs) 0 ⌝ }
-    ensures { λ r. ⌜ r ≡ fine a (take (ts .m) (ts .all)) (fill (take (ts .m) (ts .all)) (now (xs .entry))) ⌝ }
+    ensures { λ r. ⌜ r ≡ fine a (linesIn ts) (fill (linesIn ts) (now (xs .entry))) ⌝ }
 {
     let m = ts.m;
-    let all = ts.all;
+    let from = ts.from;
     let mut i: usize = 0;
     let mut j: usize = 0;
     while j < m {
-        let t = all[j];
+        let t = table::line_at(from + j);
         if !line_fits(a, t, xs, i) {
             return false;
         }
@@ -63,7 +76,7 @@ pub(crate) fn lines_fit(a: u8, ts: Lines, xs: &[u32]) -> bool
 // The same of rows of lines, n of them, each with w of the numbers xs.
 pub(crate) fn rows_fit(a: u8, ts: Lines, n: usize, w: usize, xs: &[u8]) -> bool
     requires { ⌜ Rows ts n w (now xs) 0 ⌝ }
-    ensures { λ r. ⌜ r ≡ fine a (times n (take (ts .m) (ts .all))) (fill (times n (take (ts .m) (ts .all))) (now (xs .entry))) ⌝ }
+    ensures { λ r. ⌜ r ≡ fine a (times n (linesIn ts)) (fill (times n (linesIn ts)) (now (xs .entry))) ⌝ }
 {
     let mut i: usize = 0;
     let mut j: usize = 0;

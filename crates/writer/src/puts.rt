@@ -5,9 +5,9 @@ ghost use Prim.Native.Nat.{_+_, _*_, _<_, _≤_};
 ghost use lib.ListN.{length, getD, take, drop};
 ghost use lib.Seq.{sets};
 ghost use Rattle.laws.specs.Bits.{bits, spread};
-ghost use Rattle.laws.specs.Scan.{all};
 ghost use Rattle.format.specs.Format.{own, size, encode, fill, times, sound};
 ghost use Rattle.packet.specs.Table.{countLine};
+ghost use Rattle.packet.specs.InCode.{linesIn};
 ghost use mathlib.Core.List.{[]};
 ghost use Rattle.writer.specs.Puts.{valueOf, After, Puttable, Rows};
 use format::Line;
@@ -26,8 +26,42 @@ pub(crate) fn number_of(t: Line, xs: &[u32], i: usize) -> u32
     }
 }
 
-// A line from bit p on, with the numbers of xs from i on.
-fn put_line(out: &mut [u8], p: usize, t: Line, xs: &[u32], i: usize)
+// A line with numbers of its own, each half a byte.
+fn are_digits(t: Line) -> bool
+    ensures { λ r. ⌜ (r ≡ true → (t .given ≡ true) × (t .width ≡ 4)) ⌝ }
+{
+    let free = t.given;
+    if !free {
+        return false;
+    }
+    t.width == 4
+}
+
+// The lowest half bytes of n of the numbers xs from the at-th on.
+fn halves(xs: &[u32], at: usize, n: usize) -> [u8; 64]
+    requires { ⌜ (n ≤ 64) × (at + n ≤ length (now xs)) ⌝ }
+    ensures { λ r. ⌜ (spread 4 (take n r) ≡ spread 4 (take n (drop at (now (xs .entry))))) × (length r ≡ 64) ⌝ }
+{
+    let mut few = [0u8; 64];
+    let mut j: usize = 0;
+    while j < n {
+        few[j] = (xs[at + j] % 16) as u8;
+        j += 1;
+    }
+    few
+}
+
+// n half bytes from bit p on, the numbers of xs from i on: all at once, by way of bytes.
+fn put_halves(out: &mut [u8], p: usize, n: usize, xs: &[u32], i: usize)
+    requires { ⌜ (n ≤ 64) × (p < 50000) × (i + n ≤ length (now xs)) ⌝ }
+    ensures { λ _. ⌜ bits (now (out .exit)) ≡ sets (bits (now (out .entry))) p (spread 4 (take n (drop i (now (xs .entry))))) ⌝ }
+{
+    let few = halves(xs, i, n);
+    format::put_fields(out, p, 4, &few[0..n]);
+}
+
+// A line from bit p on, with the numbers of xs from i on, number by number.
+fn put_each(out: &mut [u8], p: usize, t: Line, xs: &[u32], i: usize)
     requires { ⌜ (sound t ≡ true) × (p < 50000) × (i + own t ≤ length (now xs)) × (length (now xs) ≤ 1000) ⌝ }
     ensures { λ _. ⌜ bits (now (out .exit)) ≡ sets (bits (now (out .entry))) p (spread (t .width) (valueOf t (drop i (now (xs .entry))))) ⌝ }
 {
@@ -40,6 +74,18 @@ fn put_line(out: &mut [u8], p: usize, t: Line, xs: &[u32], i: usize)
         format::put_field(out, q, w, x);
         q += w;
         j += 1;
+    }
+}
+
+// The same; a line of digits at once.
+fn put_line(out: &mut [u8], p: usize, t: Line, xs: &[u32], i: usize)
+    requires { ⌜ (sound t ≡ true) × (p < 50000) × (i + own t ≤ length (now xs)) × (length (now xs) ≤ 1000) ⌝ }
+    ensures { λ _. ⌜ bits (now (out .exit)) ≡ sets (bits (now (out .entry))) p (spread (t .width) (valueOf t (drop i (now (xs .entry))))) ⌝ }
+{
+    if are_digits(t) {
+        put_halves(out, p, t.count, xs, i);
+    } else {
+        put_each(out, p, t, xs, i);
     }
 }
 
@@ -61,15 +107,15 @@ pub(crate) fn taken(t: Line) -> usize
 // Lines from bit p on, with the numbers xs; the place behind them.
 pub(crate) fn put_lines(out: &mut [u8], p: usize, ts: Lines, xs: &[u32]) -> usize
     requires { ⌜ Puttable ts (now xs) p ⌝ }
-    ensures { λ r. ⌜ After (now (out .entry)) (now (out .exit)) p (encode (take (ts .m) (ts .all)) (fill (take (ts .m) (ts .all)) (now (xs .entry)))) r (size (take (ts .m) (ts .all))) ⌝ }
+    ensures { λ r. ⌜ After (now (out .entry)) (now (out .exit)) p (encode (linesIn ts) (fill (linesIn ts) (now (xs .entry)))) r (size (linesIn ts)) ⌝ }
 {
     let m = ts.m;
-    let all = ts.all;
+    let from = ts.from;
     let mut q = p;
     let mut i: usize = 0;
     let mut j: usize = 0;
     while j < m {
-        let t = all[j];
+        let t = table::line_at(from + j);
         put_line(out, q, t, xs, i);
         q += width(t);
         i += taken(t);
@@ -95,7 +141,7 @@ pub(crate) fn widened(xs: &[u8], at: usize, n: usize) -> [u32; 40]
 // Rows of the same lines from bit p on, n of them, each with w of the numbers xs; the place behind them.
 pub(crate) fn put_rows(out: &mut [u8], p: usize, ts: Lines, n: usize, w: usize, xs: &[u8]) -> usize
     requires { ⌜ Rows ts n w (now xs) p ⌝ }
-    ensures { λ r. ⌜ After (now (out .entry)) (now (out .exit)) p (encode (times n (take (ts .m) (ts .all))) (fill (times n (take (ts .m) (ts .all))) (now (xs .entry)))) r (n * size (take (ts .m) (ts .all))) ⌝ }
+    ensures { λ r. ⌜ After (now (out .entry)) (now (out .exit)) p (encode (times n (linesIn ts)) (fill (times n (linesIn ts)) (now (xs .entry)))) r (n * size (linesIn ts)) ⌝ }
 {
     let mut q = p;
     let mut i: usize = 0;

@@ -1,15 +1,12 @@
 -- `reader::numbers::take_lines` meets its contract. Assumes nothing.
 use mathlib.Core.Path.{_≡_, refl, ap, _∙_}
-use mathlib.Core.Bool.{true}
 use Prim.Native.Nat.{_≤_, _-_, _+_, _*_}
 use native.Mathlib.Omega.{arith}
-use lib.ListN.{length, getD, take, drop}
+use lib.ListN.{length, take, drop}
 use lib.Seq.{sets, length-sets}
 use denote.Ref.{now}
-use Rattle.laws.specs.Scan.{all}
-use Rattle.laws.proofs.Elements.{length-mapped}
-use Rattle.format.specs.Format.{sound}
-use Rattle.format.proofs.Sound.{none}
+use Rattle.format.specs.Format.{octets}
+use Rattle.packet.specs.InCode.{everyLine, linesIn}
 use Rattle.packet.specs.Reading.{numbersAt}
 use Rattle.packet.proofs.Loops as laws
 use Rattle.reader.proofs.Taking.{taken-turn, taken-end, own-few}
@@ -19,44 +16,35 @@ use Rattle.reader.proofs.numbers.take_lines.Statement.{statement}
 use Rattle.reader.proofs.numbers.take_lines.Tie as tie
 
 abbrev Inv-loop : tie.InvT-loop
-Inv-loop b p out₀ m all6 q₀ i₀ j₀ out q i j = (j ≤ m) × (q ≤ p + 2048 * j) × (i ≤ 64 * j) × (length out ≡ length out₀) × (all sound (drop j (take m all6)) ≡ true) × (sets out₀ 0 (numbersAt (take m all6) b p) ≡ sets out i (numbersAt (drop j (take m all6)) b q))
+Inv-loop b p out₀ m from q₀ i₀ j₀ out q i j = (j ≤ m) × (q ≤ p + 2048 * j) × (i ≤ 64 * j) × (length out ≡ length out₀) × (sets out₀ 0 (numbersAt (take m (drop from everyLine)) b p) ≡ sets out i (numbersAt (drop j (take m (drop from everyLine))) b q))
 
 abbrev μ-loop : tie.MeasureT-loop
-μ-loop b p out₀ m all6 q₀ i₀ j₀ out q i j = m - j
+μ-loop b p out₀ m from q₀ i₀ j₀ out q i j = m - j
 
 loop-holds : tie.Need-loop-holds Inv-loop μ-loop
-loop-holds c = (omega arith, omega arith, omega arith, refl, c .before .before .before .pre .1, refl)
+loop-holds c = (omega arith, omega arith, omega arith, refl, refl)
 
-mul-t : tie.Need-mul-t Inv-loop μ-loop
-mul-t c = search needs
+add-line-at : tie.Need-add-line-at Inv-loop μ-loop
+add-line-at c = omega (arith, c .before .before .before .before .pre .0 .1, laws.every-few)
 
-array-copy-out-t : tie.Need-array-copy-out-t Inv-loop μ-loop
-array-copy-out-t c = search needs
+line-at-requires : tie.Need-line-at-requires Inv-loop μ-loop
+line-at-requires c κs = search needs
 
 take-line-requires : tie.Need-take-line-requires Inv-loop μ-loop
 take-line-requires c κs =
-    let ts = c .before .before .before .before .before .before .before .args .ts in
-    let pre = c .before .before .before .before .before .before .before .pre in
+    let ts = c .before .before .before .before .before .before .args .ts in
+    let pre = c .before .before .before .before .before .before .pre in
     let k = c .before .before .before .loop in
-    let n : length (ts .all) ≡ 6 = search (needs, length-mapped) in
-    let T = take (ts .m) (ts .all) in
-    let t = getD (ts .all) (k .j) none in
-    let u = laws.turn-at (ts .all) (ts .m) (k .j) none n (pre .0) (omega arith) in
-    (laws.sound-turn T (k .j) none t (u .inside) (u .same) (k .inv .4) .0, omega (arith, pre .0, pre .2, k .inv .1), omega (arith, pre .0, k .inv .2))
+    let u = laws.turn-at (ts .from) (ts .m) (k .j) (c .before .line-at .result) (pre .0 .1) (omega arith) (c .before .line-at .ensures) in
+    (u .good, omega (arith, pre .0 .0, pre .1, k .inv .1), omega (arith, pre .0 .0, k .inv .2))
 
 width-requires : tie.Need-width-requires Inv-loop μ-loop
 width-requires c κs =
-    let ts = c .before .before .before .before .before .before .before .before .before .before .args .ts in
-    let pre = c .before .before .before .before .before .before .before .before .before .before .pre in
-    let k = c .before .before .before .before .before .before .loop in
-    let n : length (ts .all) ≡ 6 = search (needs, length-mapped) in
-    let T = take (ts .m) (ts .all) in
-    let t = getD (ts .all) (k .j) none in
-    let u = laws.turn-at (ts .all) (ts .m) (k .j) none n (pre .0) (omega arith) in
-    laws.sound-turn T (k .j) none t (u .inside) (u .same) (k .inv .4) .0
+    let ts = c .before .before .before .before .before .before .before .before .before .args .ts in
+    laws.turn-at (ts .from) (ts .m) (c .before .before .before .before .before .before .loop .j) (c .before .before .before .before .line-at .result) (c .before .before .before .before .before .before .before .before .before .pre .0 .1) (omega arith) (c .before .before .before .before .line-at .ensures) .good
 
 add-q : tie.Need-add-q Inv-loop μ-loop
-add-q c = omega (arith, c .width .ensures .1, c .before .before .before .before .before .before .before .loop .inv .1, c .before .before .before .before .before .before .before .before .before .before .before .pre .0, c .before .before .before .before .before .before .before .before .before .before .before .pre .2)
+add-q c = omega (arith, c .width .ensures .1, c .before .before .before .before .before .before .before .loop .inv .1, c .before .before .before .before .before .before .before .before .before .before .pre .0 .0, c .before .before .before .before .before .before .before .before .before .before .pre .1)
 
 add-j : tie.Need-add-j Inv-loop μ-loop
 add-j c = search needs
@@ -66,24 +54,19 @@ loop-less c = omega arith
 
 loop-again : tie.Need-loop-again Inv-loop μ-loop
 loop-again c =
-    let a = c .before .before .before .before .before .before .before .before .before .before .before .args in
-    let ts = a .ts in
-    let pre = c .before .before .before .before .before .before .before .before .before .before .before .pre in
+    let a = c .before .before .before .before .before .before .before .before .before .before .args in
     let k = c .before .before .before .before .before .before .before .loop in
-    let n : length (ts .all) ≡ 6 = search (needs, length-mapped) in
-    let T = take (ts .m) (ts .all) in
-    let t = getD (ts .all) (k .j) none in
-    let u = laws.turn-at (ts .all) (ts .m) (k .j) none n (pre .0) (omega arith) in
-    let s = laws.sound-turn T (k .j) none t (u .inside) (u .same) (k .inv .4) in
+    let t = c .before .before .before .before .before .line-at .result in
+    let T = linesIn (a .ts) in
+    let u = laws.turn-at (a .ts .from) (a .ts .m) (k .j) t (c .before .before .before .before .before .before .before .before .before .before .pre .0 .1) (omega arith) (c .before .before .before .before .before .line-at .ensures) in
     let w = c .width .ensures in
     let l = c .before .before .before .take-line .ensures in
     let o = c .before .before .before .take-line .last .1 .1 .1 .0 in (
       omega arith,
       omega (arith, w .1, k .inv .1),
-      omega (arith, l .1, k .inv .2, own-few t (s .0)),
+      omega (arith, l .1, k .inv .2, own-few t (u .good)),
       ap length (l .0) ∙ length-sets (k .out) (k .i) (ownAt t (now (a .b)) (k .q)) ∙ k .inv .3,
-      s .1,
-      taken-turn T (k .j) none t (u .inside) (u .same) (now (a .b)) (k .out) o (sets (now (a .out)) 0 (numbersAt T (now (a .b)) (a .p))) (k .q) (k .i) (c .before .before .before .take-line .result) (k .inv .5) (l .0) (l .1) ∙ rw (w .0),
+      taken-turn T (k .j) (octets 0) t (u .inside) (u .same) (now (a .b)) (k .out) o (sets (now (a .out)) 0 (numbersAt T (now (a .b)) (a .p))) (k .q) (k .i) (c .before .before .before .take-line .result) (k .inv .4) (l .0) (l .1) ∙ rw (w .0),
     )
 
 same-length : tie.Need-same-length Inv-loop μ-loop
@@ -91,10 +74,9 @@ same-length c = c .before .loop .inv .3
 
 returns : tie.Need-returns Inv-loop μ-loop
 returns c =
-    let a = c .before .before .before .before .before .args in
+    let a = c .before .before .before .before .args in
     let k = c .before .loop in
-    let n : length (a .ts .all) ≡ 6 = search (needs, length-mapped) in
-    taken-end (take (a .ts .m) (a .ts .all)) (k .j) (now (a .b)) (k .out) _ (k .q) (k .i) (laws.lines-end (a .ts .all) (a .ts .m) (k .j) n (c .before .before .before .before .before .pre .0) (omega arith)) (k .inv .5)
+    taken-end (linesIn (a .ts)) (k .j) (now (a .b)) (k .out) _ (k .q) (k .i) (laws.lines-end (a .ts .from) (a .ts .m) (k .j) (c .before .before .before .before .pre .0 .1) (omega arith)) (k .inv .4)
 
 pub take-lines-spec : {M : Type 1} → statement M
 take-lines-spec =
@@ -103,8 +85,8 @@ take-lines-spec =
     Inv-loop
     μ-loop
     loop-holds
-    mul-t
-    array-copy-out-t
+    add-line-at
+    line-at-requires
     take-line-requires
     width-requires
     add-q

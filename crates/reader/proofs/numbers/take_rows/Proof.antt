@@ -3,9 +3,10 @@ use mathlib.Core.Path.{_≡_, refl, sym, ap, _∙_}
 use Prim.Native.Nat.{_≤_, _-_, _+_, _*_}
 use native.Mathlib.Nat.{sub-zero}
 use native.Mathlib.Omega.{arith}
-use lib.ListN.{length, take}
+use lib.ListN.{length}
 use lib.Seq.{sets, length-sets}
 use denote.Ref.{now}
+use Rattle.packet.specs.InCode.{linesIn}
 use Rattle.laws.specs.Bits.{bits}
 use Rattle.format.specs.Format.{times}
 use Rattle.format.proofs.Tables.{length-flat}
@@ -17,7 +18,7 @@ use Rattle.reader.proofs.numbers.take_rows.Statement.{statement}
 use Rattle.reader.proofs.numbers.take_rows.Tie as tie
 
 abbrev Inv-loop : tie.InvT-loop
-Inv-loop ts s w n b p out₀ row₀ q₀ i₀ j₀ out row q i j = (j ≤ n) × (q ≤ p + 40 * j) × (i ≤ 8 * j) × (length row ≡ 41) × (length out ≡ length out₀) × (sets out₀ 0 (numbersAt (times n (take (ts .m) (ts .all))) b p) ≡ sets out i (numbersAt (times (n - j) (take (ts .m) (ts .all))) b q))
+Inv-loop ts s w n b p out₀ row₀ q₀ i₀ j₀ out row q i j = (j ≤ n) × (q ≤ p + 40 * j) × (i ≤ 8 * j) × (length row ≡ 41) × (length out ≡ length out₀) × (sets out₀ 0 (numbersAt (times n (linesIn ts)) b p) ≡ sets out i (numbersAt (times (n - j) (linesIn ts)) b q))
 
 abbrev μ-loop : tie.MeasureT-loop
 μ-loop ts s w n b p out₀ row₀ q₀ i₀ j₀ out row q i j = n - j
@@ -32,17 +33,17 @@ slice-aggregate-take-lines : tie.Need-slice-aggregate-take-lines Inv-loop μ-loo
 slice-aggregate-take-lines c = sym (c .before .before .loop .inv .3)
 
 take-lines-requires : tie.Need-take-lines-requires Inv-loop μ-loop
-take-lines-requires c κs = let p = c .before .before .before .before .before .before .pre in (p .few, p .lines, omega (arith, p .place, p .many, c .before .before .loop .inv .1))
+take-lines-requires c κs = let p = c .before .before .before .before .before .before .pre in (p .few, omega (arith, p .place, p .many, c .before .before .loop .inv .1))
 
 slice-aggregate-narrow : tie.Need-slice-aggregate-narrow Inv-loop μ-loop
-slice-aggregate-narrow c = sym (ap length (c .before .before .take-lines .ensures) ∙ length-sets (c .before .before .before .before .before .loop .row) 0 (numbersAt (take (c .before .before .before .before .before .before .before .before .before .args .ts .m) (c .before .before .before .before .before .before .before .before .before .args .ts .all)) (now (c .before .before .before .before .before .before .before .before .before .args .b)) (c .before .before .before .before .before .loop .q)) ∙ c .before .before .before .before .before .loop .inv .3)
+slice-aggregate-narrow c = sym (ap length (c .before .before .take-lines .ensures) ∙ length-sets (c .before .before .before .before .before .loop .row) 0 (numbersAt (linesIn (c .before .before .before .before .before .before .before .before .before .args .ts)) (now (c .before .before .before .before .before .before .before .before .before .args .b)) (c .before .before .before .before .before .loop .q)) ∙ c .before .before .before .before .before .loop .inv .3)
 
 narrow-requires : tie.Need-narrow-requires Inv-loop μ-loop
 narrow-requires c κs =
     let a = c .before .before .before .before .before .before .before .before .before .before .args in
     let p = c .before .before .before .before .before .before .before .before .before .before .pre in
     let k = c .before .before .before .before .before .before .loop in
-    let T = take (a .ts .m) (a .ts .all) in
+    let T = linesIn (a .ts) in
     let o = c .before .before .before .take-lines .last .1 .1 .1 .0 in
     let l : length o ≡ 41 = ap length (c .before .before .before .take-lines .ensures) ∙ length-sets (k .row) 0 (numbersAt T (now (a .b)) (k .q)) ∙ k .inv .3 in
     (row-bytes T (now (a .b)) (k .row) o (k .q) (a .w) (p .each) (omega (arith, p .small, k .inv .3)) (c .before .before .before .take-lines .ensures) (p .narrow), omega (arith, p .small, l), omega (arith, l), omega (arith, p .many, k .inv .2))
@@ -64,7 +65,7 @@ loop-again c =
     let a = c .before .before .before .before .before .before .before .before .before .before .before .before .before .args in
     let p = c .before .before .before .before .before .before .before .before .before .before .before .before .before .pre in
     let k = c .before .before .before .before .before .before .before .before .before .loop in
-    let T = take (a .ts .m) (a .ts .all) in
+    let T = linesIn (a .ts) in
     let o = c .before .before .before .before .before .before .take-lines .last .1 .1 .1 .0 in
     let d = c .before .before .narrow .last .1 .1 .1 .0 in
     let xs = numbersAt T (now (a .b)) (k .q) in
@@ -84,7 +85,7 @@ returns : tie.Need-returns Inv-loop μ-loop
 returns c =
     let a = c .before .before .before .before .before .args in
     let k = c .before .loop in
-    let T = take (a .ts .m) (a .ts .all) in
+    let T = linesIn (a .ts) in
     rows.rows-end T (now (a .b)) (k .out) (sets (now (a .out)) 0 (numbersAt (times (a .n) T) (now (a .b)) (a .p))) (a .n) (k .j) (k .q) (k .i) (omega arith) (k .inv .5)
 
 pub take-rows-spec : {M : Type 1} → statement M

@@ -1,13 +1,11 @@
 -- `reader::parts::content` meets its contract. Assumes nothing.
-use mathlib.Core.Path.{ap, _∙_}
+use mathlib.Core.Path.{_∙_}
 use Prim.Native.Nat.{_+_, _*_}
 use native.Mathlib.Omega.{arith}
 use denote.Ref.{now}
-use lib.ListN.{take}
-use Rattle.laws.specs.Scan.{all}
-use Rattle.format.specs.Format.{sound}
+use Rattle.packet.specs.InCode.{linesIn}
+use Rattle.packet.proofs.Spans.{stands}
 use Rattle.packet.specs.Reading.{frontIn}
-use Rattle.packet.proofs.Good.{good}
 use Rattle.reader.proofs.Taking.{content-front}
 use borrow.Author.Needs.{needs}
 use Rattle.reader.proofs.parts.content.Statement.{statement}
@@ -33,8 +31,8 @@ add-numbers-at c = search needs
 
 numbers-at-requires : tie.Need-numbers-at-requires
 numbers-at-requires c κs =
-    let s = c .before .row-of .ensures in
-    (s .first .few, ap (all sound) (s .first .lines) ∙ good (c .before .before .kind .result) .before, omega (arith, c .before .before .before .before .codes-count .ensures .1))
+    let s = stands _ (c .before .row-of .ensures) in
+    (s .first .few, omega (arith, c .before .before .before .before .codes-count .ensures .1))
 
 slice-aggregate-named : tie.Need-slice-aggregate-named
 slice-aggregate-named c = search needs
@@ -47,7 +45,7 @@ unfolding frontIn
 returns c =
     let s = c .before .before .before .before .row-of .result .before in
     c .named .ensures
-    ∙ content-front (c .before .before .before .before .before .kind .result) (now (c .before .before .before .before .before .before .before .before .before .args .b)) (24 + 96 * c .before .before .before .before .before .before .before .codes-count .result) (take (s .m) (s .all)) (c .before .before .numbers-at .result) (c .before .before .before .before .row-of .ensures .first .lines) (c .before .before .numbers-at .ensures) (c .before .before .before .before .before .before .count .result)
+    ∙ content-front (c .before .before .before .before .before .kind .result) (now (c .before .before .before .before .before .before .before .before .before .args .b)) (24 + 96 * c .before .before .before .before .before .before .before .codes-count .result) (linesIn s) (c .before .before .numbers-at .result) (stands _ (c .before .before .before .before .row-of .ensures) .first .lines) (c .before .before .numbers-at .ensures) (c .before .before .before .before .before .before .count .result)
     ∙ rw (c .before .before .before .before .before .kind .ensures, c .before .before .before .before .before .before .count .ensures, c .before .before .before .before .before .before .before .codes-count .ensures .0)
 
 pub content-spec : {M : Type 1} → statement M

@@ -4,9 +4,10 @@ use mathlib.Core.List.{List}
 use native.Mathlib.Omega.{arith}
 use lib.Seq.{sets}
 use denote.Ref.{now}
+use Rattle.packet.proofs.Spans.{stands}
 use Rattle.laws.specs.Scan.{all}
 use Rattle.format.specs.declared.Line.{Line}
-use Rattle.format.specs.Format.{sound, size, need, times}
+use Rattle.format.specs.Format.{size, need, times}
 use Rattle.packet.specs.declared.Sizes.{Sizes}
 use Rattle.packet.specs.Reading.{numbersAt}
 use Rattle.packet.proofs.Good.{good}
@@ -33,14 +34,13 @@ slice-aggregate-take-rows c = search needs
 take-rows-requires : tie.Need-take-rows-requires
 take-rows-requires c κs =
     let f = c .before .before .before .before .before .before .args .f in
-    let s = c .before .before .before .before .row-of .ensures .rows in
+    let s = stands _ (c .before .before .before .before .row-of .ensures) .rows in
     let z = c .before .before .before .sizes-of .result in
     let e = c .before .before .before .sizes-of .ensures in
     let y = whole.sizes f z e in
     let r = ap (λ (x : Sizes). x .row) e in
     record {
       few = s .few;
-      lines = ap (all sound) (s .lines) ∙ good f .each;
       narrow = ap (λ (T : List Line). all ofByte (widths T)) (s .lines) ∙ bytes-of f .each;
       sized = y .each ∙ sym (ap size (s .lines));
       short = omega (arith, y .each-most);
@@ -54,7 +54,7 @@ returns : tie.Need-returns
 returns c =
     let a = c .before .before .before .before .before .before .before .before .args in
     let t = c .before .before .before .before .before .before .row-of .result .each in
-    c .before .take-rows .ensures ∙ ap (λ (T : List Line). sets (c .before .before .before .zeros272 .result) 0 (numbersAt (times (a .k) T) (now (a .b)) (a .p))) (c .before .before .before .before .before .before .row-of .ensures .rows .lines) ∙ rw (c .before .before .before .zeros272 .ensures)
+    c .before .take-rows .ensures ∙ ap (λ (T : List Line). sets (c .before .before .before .zeros272 .result) 0 (numbersAt (times (a .k) T) (now (a .b)) (a .p))) (stands _ (c .before .before .before .before .before .before .row-of .ensures) .rows .lines) ∙ rw (c .before .before .before .zeros272 .ensures)
 
 pub entries-in-spec : {M : Type 1} → statement M
 entries-in-spec =

@@ -2,9 +2,9 @@
 use mathlib.Core.Path.{ap, _∙_}
 use mathlib.Core.List.{List}
 use Prim.Native.Nat.{ℕ}
-use lib.ListN.{take}
 use lib.Seq.{sets}
 use denote.Ref.{now}
+use Rattle.packet.specs.InCode.{linesIn}
 use Rattle.packet.specs.Reading.{numbersAt}
 use borrow.Author.Needs.{needs}
 use Rattle.reader.proofs.parts.numbers_at.Statement.{statement}
@@ -22,7 +22,7 @@ take-lines-requires c κs = search needs
 returns : tie.Need-returns
 returns c =
     let a = c .before .before .before .before .before .args in
-    c .before .take-lines .ensures ∙ ap (λ (l : List ℕ). sets l 0 (numbersAt (take (a .ts .m) (a .ts .all)) (now (a .b)) (a .p))) (c .before .before .before .zeros41 .ensures)
+    c .before .take-lines .ensures ∙ ap (λ (l : List ℕ). sets l 0 (numbersAt (linesIn (a .ts)) (now (a .b)) (a .p))) (c .before .before .before .zeros41 .ensures)
 
 pub numbers-at-spec : {M : Type 1} → statement M
 numbers-at-spec =

@@ -4,14 +4,14 @@ use mathlib.Core.List.{_++_}
 use Prim.Native.Nat.{ℕ, _+_, _*_}
 use native.Mathlib.Omega.{arith}
 use denote.Ref.{now}
-use lib.ListN.{take, drop}
-use Rattle.laws.specs.Scan.{all}
-use Rattle.format.specs.Format.{sound, size}
+use lib.ListN.{drop}
+use Rattle.packet.specs.InCode.{linesIn}
+use Rattle.packet.proofs.Spans.{stands}
+use Rattle.format.specs.Format.{size}
 use Rattle.packet.specs.declared.Sizes.{Sizes}
 use Rattle.packet.specs.Table.{rowOf}
 use Rattle.packet.specs.Content.{numbersIn}
 use Rattle.packet.specs.Reading.{partAt, numbersAt, padded}
-use Rattle.packet.proofs.Good.{good}
 use Rattle.reader.proofs.Whole as whole
 use Rattle.reader.proofs.Taking as taking
 use borrow.Author.Needs.{needs}
@@ -26,8 +26,8 @@ sizes-of-requires c κs = search needs
 
 numbers-at-requires : tie.Need-numbers-at-requires
 numbers-at-requires c κs =
-    let s = c .before .before .before .row-of .ensures in
-    (s .first .few, ap (all sound) (s .first .lines) ∙ good (c .before .before .before .before .before .args .f) .before, omega arith)
+    let s = stands _ (c .before .before .before .row-of .ensures) in
+    (s .first .few, omega arith)
 
 add-numbers-at : tie.Need-add-numbers-at
 add-numbers-at c = omega (arith, whole.sizes (c .before .before .before .before .before .before .before .args .f) (c .before .before .before .before .sizes-of .result) (c .before .before .before .before .sizes-of .ensures) .lead-most)
@@ -42,9 +42,9 @@ add-numbers-at-2 c =
 
 numbers-at-requires-2 : tie.Need-numbers-at-requires-2
 numbers-at-requires-2 c κs =
-    let s = c .before .before .before .before .before .before .row-of .ensures in
+    let s = stands _ (c .before .before .before .before .before .before .row-of .ensures) in
     let y = whole.sizes (c .before .before .before .before .before .before .before .before .args .f) (c .before .before .before .before .before .sizes-of .result) (c .before .before .before .before .before .sizes-of .ensures) in
-    (s .last .few, ap (all sound) (s .last .lines) ∙ good (c .before .before .before .before .before .before .before .before .args .f) .after, omega (arith, whole.row-fits (c .before .before .before .before .before .before .before .before .args .k) (c .before .before .before .before .before .sizes-of .result .each) (c .before .before .before .before .before .before .before .before .pre .1) (y .each-most), y .lead-most))
+    (s .last .few, omega (arith, whole.row-fits (c .before .before .before .before .before .before .before .before .args .k) (c .before .before .before .before .before .sizes-of .result .each) (c .before .before .before .before .before .before .before .before .pre .1) (y .each-most), y .lead-most))
 
 slice-aggregate-named : tie.Need-slice-aggregate-named
 slice-aggregate-named c = search needs
@@ -68,11 +68,11 @@ digits-of-requires c κs =
     let t = c .before .before .before .before .before .before .before .before .before .before .before .before .row-of .result .after in
     let z = c .before .before .before .before .before .before .before .before .before .before .before .sizes-of .result in
     let e = c .before .before .before .before .before .before .before .before .before .before .before .sizes-of .ensures in
-    let first = c .before .before .before .before .before .before .before .before .before .before .before .before .row-of .ensures .first .lines in
-    let last = c .before .before .before .before .before .before .before .before .before .before .before .before .row-of .ensures .last .lines in
-    let n = taking.numbers-own (a .f) (now (a .b)) (a .q) (take (s .m) (s .all)) (c .before .before .before .before .before .before .before .before .numbers-at .result) first (c .before .before .before .before .before .before .before .before .numbers-at .ensures) (a .k) (c .before .before .before .named .result) (c .before .before .lay .result) (c .before .before .before .named .ensures) (c .before .before .lay .ensures) in
-    taking.digits-asked (a .f) (now (a .b)) (a .q) (take (s .m) (s .all)) (c .before .before .before .before .before .before .before .before .numbers-at .result) first (c .before .before .before .before .before .before .before .before .numbers-at .ensures)
-    (a .q + z .lead + a .k * z .each) (take (t .m) (t .all)) (c .before .before .before .before .before .numbers-at2 .result) last (c .before .before .before .before .before .numbers-at2 .ensures)
+    let first = stands _ (c .before .before .before .before .before .before .before .before .before .before .before .before .row-of .ensures) .first .lines in
+    let last = stands _ (c .before .before .before .before .before .before .before .before .before .before .before .before .row-of .ensures) .last .lines in
+    let n = taking.numbers-own (a .f) (now (a .b)) (a .q) (linesIn s) (c .before .before .before .before .before .before .before .before .numbers-at .result) first (c .before .before .before .before .before .before .before .before .numbers-at .ensures) (a .k) (c .before .before .before .named .result) (c .before .before .lay .result) (c .before .before .before .named .ensures) (c .before .before .lay .ensures) in
+    taking.digits-asked (a .f) (now (a .b)) (a .q) (linesIn s) (c .before .before .before .before .before .before .before .before .numbers-at .result) first (c .before .before .before .before .before .before .before .before .numbers-at .ensures)
+    (a .q + z .lead + a .k * z .each) (linesIn t) (c .before .before .before .before .before .numbers-at2 .result) last (c .before .before .before .before .before .numbers-at2 .ensures)
     (c .before .before .lay .result .n) (z .first) (z .last) n (ap (λ (x : Sizes). x .first) e) (ap (λ (x : Sizes). x .last) e)
 
 returns : tie.Need-returns
@@ -82,15 +82,15 @@ returns c =
     let t = c .before .before .before .before .before .before .before .before .before .before .before .before .before .row-of .result .after in
     let z = c .before .before .before .before .before .before .before .before .before .before .before .before .sizes-of .result in
     let e = c .before .before .before .before .before .before .before .before .before .before .before .before .sizes-of .ensures in
-    let first = c .before .before .before .before .before .before .before .before .before .before .before .before .before .row-of .ensures .first .lines in
-    let last = c .before .before .before .before .before .before .before .before .before .before .before .before .before .row-of .ensures .last .lines in
-    let n = taking.numbers-own (a .f) (now (a .b)) (a .q) (take (s .m) (s .all)) (c .before .before .before .before .before .before .before .before .before .numbers-at .result) first (c .before .before .before .before .before .before .before .before .before .numbers-at .ensures) (a .k) (c .before .before .before .before .named .result) (c .before .before .before .lay .result) (c .before .before .before .before .named .ensures) (c .before .before .before .lay .ensures) in
+    let first = stands _ (c .before .before .before .before .before .before .before .before .before .before .before .before .before .row-of .ensures) .first .lines in
+    let last = stands _ (c .before .before .before .before .before .before .before .before .before .before .before .before .before .row-of .ensures) .last .lines in
+    let n = taking.numbers-own (a .f) (now (a .b)) (a .q) (linesIn s) (c .before .before .before .before .before .before .before .before .before .numbers-at .result) first (c .before .before .before .before .before .before .before .before .before .numbers-at .ensures) (a .k) (c .before .before .before .before .named .result) (c .before .before .before .lay .result) (c .before .before .before .before .named .ensures) (c .before .before .before .lay .ensures) in
     let y = whole.sizes (a .f) z e in
     let r : a .q + z .lead + a .k * z .each ≡ a .q + (partAt (rowOf (a .f)) + a .k * size (rowOf (a .f) .each)) = ap₂ (λ (l w : ℕ). a .q + l + a .k * w) (y .lead) (y .each) ∙ omega arith in (
-      c .before .before .before .before .named .ensures ∙ taking.content-front (a .f) (now (a .b)) (a .q) (take (s .m) (s .all)) (c .before .before .before .before .before .before .before .before .before .numbers-at .result) first (c .before .before .before .before .before .before .before .before .before .numbers-at .ensures) (a .k),
+      c .before .before .before .before .named .ensures ∙ taking.content-front (a .f) (now (a .b)) (a .q) (linesIn s) (c .before .before .before .before .before .before .before .before .before .numbers-at .result) first (c .before .before .before .before .before .before .before .before .before .numbers-at .ensures) (a .k),
       c .digits-of .ensures
-          ∙ taking.digits-are (a .f) (now (a .b)) (a .q) (take (s .m) (s .all)) (c .before .before .before .before .before .before .before .before .before .numbers-at .result) first (c .before .before .before .before .before .before .before .before .before .numbers-at .ensures)
-          (a .q + z .lead + a .k * z .each) (take (t .m) (t .all)) (c .before .before .before .before .before .before .numbers-at2 .result) last (c .before .before .before .before .before .before .numbers-at2 .ensures)
+          ∙ taking.digits-are (a .f) (now (a .b)) (a .q) (linesIn s) (c .before .before .before .before .before .before .before .before .before .numbers-at .result) first (c .before .before .before .before .before .before .before .before .before .numbers-at .ensures)
+          (a .q + z .lead + a .k * z .each) (linesIn t) (c .before .before .before .before .before .before .numbers-at2 .result) last (c .before .before .before .before .before .before .numbers-at2 .ensures)
           (c .before .before .before .lay .result .n) (z .first) (z .last) n (ap (λ (x : Sizes). x .first) e) (ap (λ (x : Sizes). x .last) e)
           ∙ ap (λ (x : ℕ). padded 35 (drop (numbersIn (a .f)) (numbersAt (rowOf (a .f) .before) (now (a .b)) (a .q)) ++ numbersAt (rowOf (a .f) .after) (now (a .b)) x)) r,
     )

@@ -1,14 +1,30 @@
--- `reader::refusals::lines_answer` meets its contract: each way out has its law in Whole. Assumes nothing.
-use mathlib.Core.Path.{sym, ap, _∙_}
-use mathlib.Core.Bool.{not}
+-- `reader::refusals::lines_answer` meets its contract. Assumes nothing.
+use mathlib.Core.Path.{_≡_, refl, sym, ap, subst, _∙_}
+use mathlib.Core.Bool.{false, not}
+use mathlib.Core.List.{List}
+use Prim.Native.Nat.{ℕ, _<_}
+use native.Mathlib.Omega.{arith}
 use denote.Ref.{now}
-use borrow.Author.Tests.{not-true, not-false}
+use lib.ListN.{drop}
+use Rattle.laws.specs.Refusals.{first}
 use Rattle.laws.proofs.Cases.{or-yes, or-no}
+use Rattle.format.specs.Format.{fine}
 use Rattle.packet.specs.Content.{noSuchDay}
+use Rattle.packet.specs.Reading.{tableOf, valuesIn, readCases}
+use Rattle.reader.specs.Due.{Judged}
 use Rattle.reader.proofs.Whole as whole
+use Rattle.reader.proofs.Due.{asked-cases}
 use borrow.Author.Needs.{needs}
 use Rattle.reader.proofs.refusals.lines_answer.Statement.{statement}
 use Rattle.reader.proofs.refusals.lines_answer.Tie as tie
+
+-- the number that is due is the answer
+says-due : (b : List ℕ) (d : ℕ) → Judged (λ (a : ℕ). fine a (tableOf b) (valuesIn b)) d → d < 255 → d ≡ first (drop 3 (readCases b))
+says-due b d j l =
+    let y = j .due l in
+    let at : (n : ℕ) → d ≡ n → fine n (tableOf b) (valuesIn b) ≡ false = λ n e. subst (λ (a : ℕ). fine a (tableOf b) (valuesIn b) ≡ false) e (y .1) in
+    asked-cases d (y .0) (λ e. e ∙ whole.says-24 b (at 24 e)) (λ e. e ∙ whole.says-25 b (j .fine 24 refl (omega arith)) (at 25 e))
+    (λ e. e ∙ whole.says-27 b (j .fine 24 refl (omega arith)) (j .fine 25 refl (omega arith)) (or-yes _ (ap not (at 27 e))))
 
 kind-requires : tie.Need-kind-requires
 kind-requires c κs = search needs
@@ -16,28 +32,11 @@ kind-requires c κs = search needs
 count-requires : tie.Need-count-requires
 count-requires c κs = search needs
 
-packet-fine-requires : tie.Need-packet-fine-requires
-packet-fine-requires c κs = search needs
+packet-due-requires : tie.Need-packet-due-requires
+packet-due-requires c κs = search needs
 
 returns : tie.Need-returns
-returns c = whole.says-24 (now (c .before .before .before .before .before .args .b)) (sym (c .before .packet-fine .ensures) ∙ not-true (c .before .packet-fine .result) (c .if1 .taken))
-
-packet-fine-requires-2 : tie.Need-packet-fine-requires-2
-packet-fine-requires-2 c κs = search needs
-
-returns-2 : tie.Need-returns-2
-returns-2 c =
-    whole.says-25 (now (c .before .before .before .before .before .before .before .args .b)) (sym (c .before .before .before .packet-fine .ensures) ∙ not-false (c .before .before .before .packet-fine .result) (c .before .before .if1 .left))
-    (sym (c .before .packet-fine2 .ensures) ∙ not-true (c .before .packet-fine2 .result) (c .if2 .taken))
-
-packet-fine-requires-3 : tie.Need-packet-fine-requires-3
-packet-fine-requires-3 c κs = search needs
-
-returns-3 : tie.Need-returns-3
-returns-3 c =
-    whole.says-27 (now (c .before .before .before .before .before .before .before .before .before .args .b)) (sym (c .before .before .before .before .before .packet-fine .ensures) ∙ not-false (c .before .before .before .before .before .packet-fine .result) (c .before .before .before .before .if1 .left))
-    (sym (c .before .before .before .packet-fine2 .ensures) ∙ not-false (c .before .before .before .packet-fine2 .result) (c .before .before .if2 .left))
-    (or-yes _ (ap not (sym (c .before .packet-fine3 .ensures) ∙ not-true (c .before .packet-fine3 .result) (c .if3 .taken))))
+returns c = says-due (now (c .before .before .before .before .before .args .b)) (c .before .packet-due .result) (c .before .packet-due .ensures) (omega arith)
 
 content-requires : tie.Need-content-requires
 content-requires c κs = search needs
@@ -45,17 +44,19 @@ content-requires c κs = search needs
 no-such-day-requires : tie.Need-no-such-day-requires
 no-such-day-requires c κs = search needs
 
-returns-4 : tie.Need-returns-4
-returns-4 c =
-    whole.says-27 (now (c .before .before .before .before .before .before .before .before .before .before .before .before .args .b)) (sym (c .before .before .before .before .before .before .before .before .packet-fine .ensures) ∙ not-false (c .before .before .before .before .before .before .before .before .packet-fine .result) (c .before .before .before .before .before .before .before .if1 .left))
-    (sym (c .before .before .before .before .before .before .packet-fine2 .ensures) ∙ not-false (c .before .before .before .before .before .before .packet-fine2 .result) (c .before .before .before .before .before .if2 .left))
-    (or-no _ (ap not (sym (c .before .before .before .before .packet-fine3 .ensures) ∙ not-false (c .before .before .before .before .packet-fine3 .result) (c .before .before .before .if3 .left))) ∙ sym (c .before .no-such-day .ensures ∙ ap noSuchDay (c .before .before .content .ensures)) ∙ c .if4 .taken)
+returns-2 : tie.Need-returns-2
+returns-2 c =
+    let b = now (c .before .before .before .before .before .before .before .before .args .b) in
+    let j = c .before .before .before .before .packet-due .ensures in
+    let e = c .before .before .before .if1 .left in
+    whole.says-27 b (j .fine 24 refl (omega arith)) (j .fine 25 refl (omega arith)) (or-no _ (ap not (j .fine 27 refl (omega arith))) ∙ sym (c .before .no-such-day .ensures ∙ ap noSuchDay (c .before .before .content .ensures)) ∙ c .if2 .taken)
 
-returns-5 : tie.Need-returns-5
-returns-5 c =
-    whole.says-0 (now (c .before .before .before .before .before .before .before .before .before .before .before .before .args .b)) (sym (c .before .before .before .before .before .before .before .before .packet-fine .ensures) ∙ not-false (c .before .before .before .before .before .before .before .before .packet-fine .result) (c .before .before .before .before .before .before .before .if1 .left))
-    (sym (c .before .before .before .before .before .before .packet-fine2 .ensures) ∙ not-false (c .before .before .before .before .before .before .packet-fine2 .result) (c .before .before .before .before .before .if2 .left))
-    (or-no _ (ap not (sym (c .before .before .before .before .packet-fine3 .ensures) ∙ not-false (c .before .before .before .before .packet-fine3 .result) (c .before .before .before .if3 .left))) ∙ sym (c .before .no-such-day .ensures ∙ ap noSuchDay (c .before .before .content .ensures)) ∙ c .if4 .left)
+returns-3 : tie.Need-returns-3
+returns-3 c =
+    let b = now (c .before .before .before .before .before .before .before .before .args .b) in
+    let j = c .before .before .before .before .packet-due .ensures in
+    let e = c .before .before .before .if1 .left in
+    whole.says-0 b (j .fine 24 refl (omega arith)) (j .fine 25 refl (omega arith)) (or-no _ (ap not (j .fine 27 refl (omega arith))) ∙ sym (c .before .no-such-day .ensures ∙ ap noSuchDay (c .before .before .content .ensures)) ∙ c .if2 .left)
 
 pub lines-answer-spec : {M : Type 1} → statement M
 lines-answer-spec =
@@ -63,13 +64,9 @@ lines-answer-spec =
     (tie.spec
     kind-requires
     count-requires
-    packet-fine-requires
+    packet-due-requires
     returns
-    packet-fine-requires-2
-    returns-2
-    packet-fine-requires-3
-    returns-3
     content-requires
     no-such-day-requires
-    returns-4
-    returns-5)
+    returns-2
+    returns-3)

@@ -1,5 +1,6 @@
 -- `writer::content::count_for` meets its contract. Assumes nothing.
 use mathlib.Core.Path.{sym, _∙_}
+use Rattle.packet.proofs.Spans.{stands}
 use Rattle.writer.proofs.Sizes.{counted}
 use borrow.Author.Needs.{needs}
 use Rattle.writer.proofs.content.count_for.Statement.{statement}
@@ -24,16 +25,16 @@ enum-told-4 : tie.Need-enum-told-4
 enum-told-4 c = search needs
 
 returns : tie.Need-returns
-returns c = let a = c .before .before .before .before .args in counted (a .c) (a .lent) (c .before .before .before .lay .result) _ (c .before .before .before .lay .ensures) (sym (c .before .before .row-of .ensures .same) ∙ c .enum-told .given .1)
+returns c = let a = c .before .before .before .before .args in counted (a .c) (a .lent) (c .before .before .before .lay .result) _ (c .before .before .before .lay .ensures) (sym (stands _ (c .before .before .row-of .ensures) .same) ∙ c .enum-told .given .1)
 
 returns-2 : tie.Need-returns-2
-returns-2 c = let a = c .before .before .before .before .args in counted (a .c) (a .lent) (c .before .before .before .lay .result) _ (c .before .before .before .lay .ensures) (sym (c .before .before .row-of .ensures .same) ∙ c .enum-told2 .given .1)
+returns-2 c = let a = c .before .before .before .before .args in counted (a .c) (a .lent) (c .before .before .before .lay .result) _ (c .before .before .before .lay .ensures) (sym (stands _ (c .before .before .row-of .ensures) .same) ∙ c .enum-told2 .given .1)
 
 returns-3 : tie.Need-returns-3
-returns-3 c = let a = c .before .before .before .before .args in counted (a .c) (a .lent) (c .before .before .before .lay .result) _ (c .before .before .before .lay .ensures) (sym (c .before .before .row-of .ensures .same) ∙ c .enum-told3 .given .1)
+returns-3 c = let a = c .before .before .before .before .args in counted (a .c) (a .lent) (c .before .before .before .lay .result) _ (c .before .before .before .lay .ensures) (sym (stands _ (c .before .before .row-of .ensures) .same) ∙ c .enum-told3 .given .1)
 
 returns-4 : tie.Need-returns-4
-returns-4 c = let a = c .before .before .before .before .args in counted (a .c) (a .lent) (c .before .before .before .lay .result) _ (c .before .before .before .lay .ensures) (sym (c .before .before .row-of .ensures .same) ∙ c .enum-told4 .given .1)
+returns-4 c = let a = c .before .before .before .before .args in counted (a .c) (a .lent) (c .before .before .before .lay .result) _ (c .before .before .before .lay .ensures) (sym (stands _ (c .before .before .row-of .ensures) .same) ∙ c .enum-told4 .given .1)
 
 pub count-for-spec : {M : Type 1} → statement M
 count-for-spec =

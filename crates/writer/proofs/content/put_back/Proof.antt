@@ -2,8 +2,8 @@
 use mathlib.Core.Path.{_≡_, subst}
 use native.Mathlib.Omega.{arith}
 use lib.ListN.{length}
+use Rattle.packet.proofs.Spans.{Listed, stands}
 use Rattle.packet.specs.declared.Kind.{Kind}
-use Rattle.packet.specs.InCode.{Listed}
 use Rattle.packet.specs.Table.{rowOf}
 use Rattle.packet.specs.Content.{kindFor}
 use Rattle.packet.specs.Writing.{rowFor}
@@ -32,11 +32,11 @@ slice-aggregate-put-lines c = search needs
 
 put-lines-requires : tie.Need-put-lines-requires
 put-lines-requires c κs =
-    let w : Listed (c .before .before .before .before .before .row-of .result .after) (rowFor (c .before .before .before .before .before .before .before .before .args .c) .after) = subst (λ (f : Kind). Listed (c .before .before .before .before .before .row-of .result .after) (rowOf f .after)) (c .before .before .before .before .before .before .kind-for .ensures) (c .before .before .before .before .before .row-of .ensures .last) in
+    let w : Listed (c .before .before .before .before .before .row-of .result .after) (rowFor (c .before .before .before .before .before .before .before .before .args .c) .after) = subst (λ (f : Kind). Listed (c .before .before .before .before .before .row-of .result .after) (rowOf f .after)) (c .before .before .before .before .before .before .kind-for .ensures) (stands _ (c .before .before .before .before .before .row-of .ensures) .last) in
     let z = good (kindFor (c .before .before .before .before .before .before .before .before .args .c)) in
     let n = z .last in
     let l = c .before .before .widened .ensures .1 in
-    can-put _ _ w (z .after) _ _ (omega arith) (omega arith) (omega (arith, c .before .before .before .before .before .before .before .before .pre))
+    can-put _ _ w _ _ (omega arith) (omega arith) (omega (arith, c .before .before .before .before .before .before .before .before .pre))
 
 same-length : tie.Need-same-length
 same-length c = search needs
@@ -44,7 +44,7 @@ same-length c = search needs
 returns : tie.Need-returns
 unfolding backBits
 returns c =
-    let w : Listed (c .before .before .before .before .before .before .before .before .row-of .result .after) (rowFor (c .before .before .before .before .before .before .before .before .before .before .before .args .c) .after) = subst (λ (f : Kind). Listed (c .before .before .before .before .before .before .before .before .row-of .result .after) (rowOf f .after)) (c .before .before .before .before .before .before .before .before .before .kind-for .ensures) (c .before .before .before .before .before .before .before .before .row-of .ensures .last) in
+    let w : Listed (c .before .before .before .before .before .before .before .before .row-of .result .after) (rowFor (c .before .before .before .before .before .before .before .before .before .before .before .args .c) .after) = subst (λ (f : Kind). Listed (c .before .before .before .before .before .before .before .before .row-of .result .after) (rowOf f .after)) (c .before .before .before .before .before .before .before .before .before .kind-for .ensures) (stands _ (c .before .before .before .before .before .before .before .before .row-of .ensures) .last) in
     let d : length (c .before .before .before .before .before .before .before .before .before .before .before .args .t4) ≡ 35 = search needs in
     have-put _ _ w _ _ (c .before .before .before .before .before .widened .result) _ _ _ (back-fill (c .before .before .before .before .before .before .before .before .before .before .before .args .c) (c .before .before .before .before .before .before .before .before .before .before .before .args .t4) d (c .before .before .before .before .before .widened .result) (c .before .before .before .before .before .widened .ensures .0) (c .before .before .before .before .before .widened .ensures .1)) (c .before .before .put-lines .ensures)
 

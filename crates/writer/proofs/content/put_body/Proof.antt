@@ -1,4 +1,5 @@
 -- `writer::content::put_body` meets its contract. Assumes nothing.
+use Rattle.packet.proofs.Spans.{Listed, stands}
 use Rattle.writer.proofs.Contents.{entries-body, octets-body}
 use Rattle.writer.proofs.Shapes.{can-put-rows, have-put-rows}
 use Rattle.writer.proofs.Sizes.{row-is, row-few}
@@ -9,7 +10,6 @@ use Prim.Native.Nat.{ℕ, _*_}
 use native.Mathlib.Omega.{arith}
 use lib.ListN.{length}
 use Rattle.packet.specs.declared.Kind.{Kind}
-use Rattle.packet.specs.InCode.{Listed}
 use Rattle.packet.specs.Table.{rowOf}
 use Rattle.packet.specs.Content.{kindFor}
 use Rattle.packet.specs.Reading.{sizesOf, hasEntries}
@@ -40,13 +40,13 @@ put-rows-requires : tie.Need-put-rows-requires
 put-rows-requires c κs =
     let x = c .before .before .before .before .before .before .before .before .before .before .args in
     let f = c .before .before .before .before .before .before .before .kind-for .ensures in
-    let w : Listed (c .before .before .before .before .row-of .result .each) (rowFor (x .c) .each) = subst (λ (f : Kind). Listed (c .before .before .before .before .row-of .result .each) (rowOf f .each)) f (c .before .before .before .before .row-of .ensures .rows) in
+    let w : Listed (c .before .before .before .before .row-of .result .each) (rowFor (x .c) .each) = subst (λ (f : Kind). Listed (c .before .before .before .before .row-of .result .each) (rowOf f .each)) f (stands _ (c .before .before .before .before .row-of .ensures) .rows) in
     let z = c .before .before .before .sizes-of .ensures ∙ ap sizesOf f in
     let r = row-is (x .c) _ z in
     let h = c .before .before .before .before .before .before .before .before .before .before .pre .0 in
     let k = c .before .count-for .ensures in
     let g = good (kindFor (x .c)) in
-    can-put-rows _ _ w (g .each) _ _ _ _ (sym r) (omega (arith, row-few (x .c) _ z)) (omega (arith, g .row)) (omega (arith, h .few, k)) (rw (k, r) (h .numbers)) (c .before .before .before .before .before .before .before .before .before .before .pre .1)
+    can-put-rows _ _ w _ _ _ _ (sym r) (omega (arith, row-few (x .c) _ z)) (omega (arith, g .row)) (omega (arith, h .few, k)) (rw (k, r) (h .numbers)) (c .before .before .before .before .before .before .before .before .before .before .pre .1)
 
 put-octets-requires : tie.Need-put-octets-requires
 put-octets-requires c κs =
@@ -60,7 +60,7 @@ same-length c = search needs
 returns : tie.Need-returns
 returns c =
     let x = c .before .before .before .before .before .before .before .before .before .before .before .before .before .args in
-    let w : Listed (c .before .before .before .before .before .before .before .row-of .result .each) (rowFor (x .c) .each) = subst (λ (f : Kind). Listed (c .before .before .before .before .before .before .before .row-of .result .each) (rowOf f .each)) (c .before .before .before .before .before .before .before .before .before .before .kind-for .ensures) (c .before .before .before .before .before .before .before .row-of .ensures .rows) in
+    let w : Listed (c .before .before .before .before .before .before .before .row-of .result .each) (rowFor (x .c) .each) = subst (λ (f : Kind). Listed (c .before .before .before .before .before .before .before .row-of .result .each) (rowOf f .each)) (c .before .before .before .before .before .before .before .before .before .before .kind-for .ensures) (stands _ (c .before .before .before .before .before .before .before .row-of .ensures) .rows) in
     entries-body (x .c) _ _ (x .body .now) _ _ _ (c .before .before .before .before .before .before .before .before .before .before .before .before .before .pre .0) (c .before .before .before .before .count-for .ensures) (have-put-rows _ _ w _ _ _ _ _ _ (c .before .before .put-rows .ensures))
 
 same-length-2 : tie.Need-same-length-2

@@ -3,10 +3,10 @@ use mathlib.Core.Path.{_≡_, ap, _∙_, subst}
 use mathlib.Core.List.{[]}
 use native.Mathlib.Omega.{arith}
 use lib.ListN.{length}
+use Rattle.packet.proofs.Spans.{Listed, stands}
 use Rattle.format.specs.Format.{size, encode, fill}
 use Rattle.packet.specs.declared.Kind.{Kind}
 use Rattle.packet.specs.declared.Counting.{Counting}
-use Rattle.packet.specs.InCode.{Listed}
 use Rattle.packet.specs.Table.{rowOf, countLine}
 use Rattle.packet.specs.Content.{kindFor}
 use Rattle.packet.specs.Writing.{rowFor, frontFor}
@@ -34,15 +34,15 @@ slice-aggregate-put-lines c = search needs
 
 put-lines-requires : tie.Need-put-lines-requires
 put-lines-requires c κs =
-    let w : Listed (c .before .before .before .before .row-of .result .before) (rowFor (c .before .before .before .before .before .before .before .args .c) .before) = subst (λ (f : Kind). Listed (c .before .before .before .before .row-of .result .before) (rowOf f .before)) (c .before .before .before .before .before .kind-for .ensures) (c .before .before .before .before .row-of .ensures .first) in
+    let w : Listed (c .before .before .before .before .row-of .result .before) (rowFor (c .before .before .before .before .before .before .before .args .c) .before) = subst (λ (f : Kind). Listed (c .before .before .before .before .row-of .result .before) (rowOf f .before)) (c .before .before .before .before .before .kind-for .ensures) (stands _ (c .before .before .before .before .row-of .ensures) .first) in
     let z = good (kindFor (c .before .before .before .before .before .before .before .args .c)) in
     let n = numbers-fit (c .before .before .before .before .before .before .before .args .c) in
     let l = c .before .before .front-of .ensures .long in
-    can-put _ _ w (z .before) _ _ (omega (arith, n .1, n .2)) (omega arith) (omega (arith, c .before .before .before .before .before .before .before .pre .1))
+    can-put _ _ w _ _ (omega (arith, n .1, n .2)) (omega arith) (omega (arith, c .before .before .before .before .before .before .before .pre .1))
 
 put-count-requires : tie.Need-put-count-requires
 put-count-requires c κs =
-    let w : Listed (c .before .before .before .before .before .before .before .before .row-of .result .before) (rowFor (c .before .before .before .before .before .before .before .before .before .before .before .args .c) .before) = subst (λ (f : Kind). Listed (c .before .before .before .before .before .before .before .before .row-of .result .before) (rowOf f .before)) (c .before .before .before .before .before .before .before .before .before .kind-for .ensures) (c .before .before .before .before .before .before .before .before .row-of .ensures .first) in
+    let w : Listed (c .before .before .before .before .before .before .before .before .row-of .result .before) (rowFor (c .before .before .before .before .before .before .before .before .before .before .before .args .c) .before) = subst (λ (f : Kind). Listed (c .before .before .before .before .before .before .before .before .row-of .result .before) (rowOf f .before)) (c .before .before .before .before .before .before .before .before .before .kind-for .ensures) (stands _ (c .before .before .before .before .before .before .before .before .row-of .ensures) .first) in
     (c .before .before .before .before .before .before .before .before .before .before .before .pre .0, omega (arith, c .before .before .before .put-lines .ensures .place, ap size (w .lines), good (kindFor (c .before .before .before .before .before .before .before .before .before .before .before .args .c)) .first, c .before .before .before .before .before .before .before .before .before .before .before .pre .1))
 
 same-length : tie.Need-same-length
@@ -52,9 +52,9 @@ returns : tie.Need-returns
 unfolding frontBits frontSize
 returns c =
     let x = c .before .before .before .before .before .before .before .before .before .before .before .before .before .before .args in
-    let w : Listed (c .before .before .before .before .before .before .before .before .before .before .before .row-of .result .before) (rowFor (x .c) .before) = subst (λ (f : Kind). Listed (c .before .before .before .before .before .before .before .before .before .before .before .row-of .result .before) (rowOf f .before)) (c .before .before .before .before .before .before .before .before .before .before .before .before .kind-for .ensures) (c .before .before .before .before .before .before .before .before .before .before .before .row-of .ensures .first) in
+    let w : Listed (c .before .before .before .before .before .before .before .before .before .before .before .row-of .result .before) (rowFor (x .c) .before) = subst (λ (f : Kind). Listed (c .before .before .before .before .before .before .before .before .before .before .before .row-of .result .before) (rowOf f .before)) (c .before .before .before .before .before .before .before .before .before .before .before .before .kind-for .ensures) (stands _ (c .before .before .before .before .before .before .before .before .before .before .before .row-of .ensures) .first) in
     let d : length (x .digits) ≡ 35 = search needs in
-    let s : c .before .before .before .before .before .before .before .before .before .before .before .row-of .result .counting ≡ rowFor (x .c) .counting = c .before .before .before .before .before .before .before .before .before .before .before .row-of .ensures .same ∙ ap (λ (f : Kind). rowOf f .counting) (c .before .before .before .before .before .before .before .before .before .before .before .before .kind-for .ensures) in
+    let s : c .before .before .before .before .before .before .before .before .before .before .before .row-of .result .counting ≡ rowFor (x .c) .counting = stands _ (c .before .before .before .before .before .before .before .before .before .before .before .row-of .ensures) .same ∙ ap (λ (f : Kind). rowOf f .counting) (c .before .before .before .before .before .before .before .before .before .before .before .before .kind-for .ensures) in
     let a : After (x .out .now) (c .before .before .before .before .before .before .put-lines .last .0) (x .p) (encode (rowFor (x .c) .before) (fill (rowFor (x .c) .before) (frontFor (x .c) (x .digits)))) (c .before .before .before .before .before .before .put-lines .result) (size (rowFor (x .c) .before)) =
     have-put _ _ w _ _ (c .before .before .before .before .before .before .before .before .before .front-of .result) _ _ _ (front-fill (x .c) (x .digits) d (c .before .before .before .before .before .before .before .before .before .front-of .result) (c .before .before .before .before .before .before .before .before .before .front-of .ensures)) (c .before .before .before .before .before .before .put-lines .ensures) in
     let b : After (c .before .before .before .before .before .before .put-lines .last .0) (c .before .before .put-count .last .0) (c .before .before .before .before .before .before .put-lines .result) (encode (countLine (rowFor (x .c) .counting) (x .k)) (fill (countLine (rowFor (x .c) .counting) (x .k)) [])) (c .before .before .put-count .result) (size (countLine (rowFor (x .c) .counting) (x .k))) =

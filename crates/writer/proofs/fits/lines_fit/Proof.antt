@@ -1,16 +1,12 @@
 -- `writer::fits::lines_fit` meets its contract. Assumes nothing.
-use Prim.Native.Nat.{ℕ}
 use mathlib.Core.Path.{_≡_, refl, sym, ap, _∙_}
-use mathlib.Core.Bool.{true}
-use Prim.Native.Nat.{_≤_, _-_, _+_}
+use Prim.Native.Nat.{ℕ, _≤_, _-_, _+_}
 use native.Mathlib.Omega.{arith}
-use lib.ListN.{length, getD, drop, take}
+use lib.ListN.{drop, take}
 use borrow.Author.Tests.{not-true, not-false}
-use Rattle.laws.specs.Scan.{all}
-use Rattle.laws.proofs.Elements.{length-mapped}
 use Rattle.laws.proofs.Cases.{and-yes, and-no}
-use Rattle.format.specs.Format.{need, own, sound, fine, fill}
-use Rattle.format.proofs.Sound.{none}
+use Rattle.format.specs.Format.{octets, need, own, fine, fill}
+use Rattle.packet.specs.InCode.{everyLine, linesIn}
 use Rattle.packet.proofs.Loops as laws
 use Rattle.writer.proofs.Inside.{lines-turn, lines-done}
 use borrow.Author.Needs.{needs}
@@ -18,55 +14,48 @@ use Rattle.writer.proofs.fits.lines_fit.Statement.{statement}
 use Rattle.writer.proofs.fits.lines_fit.Tie as tie
 
 abbrev Inv-loop : tie.InvT-loop
-Inv-loop a xs m ls i₀ j₀ i j = (j ≤ m) × (all sound (drop j (take m ls)) ≡ true) × (need (take m ls) ≡ i + need (drop j (take m ls))) × (fine a (take m ls) (fill (take m ls) xs) ≡ fine a (drop j (take m ls)) (fill (drop j (take m ls)) (drop i xs)))
+Inv-loop a xs m from i₀ j₀ i j = (j ≤ m) × (need (take m (drop from everyLine)) ≡ i + need (drop j (take m (drop from everyLine)))) × (fine a (take m (drop from everyLine)) (fill (take m (drop from everyLine)) xs) ≡ fine a (drop j (take m (drop from everyLine))) (fill (drop j (take m (drop from everyLine))) (drop i xs)))
 
 abbrev μ-loop : tie.MeasureT-loop
-μ-loop a xs m ls i₀ j₀ i j = m - j
+μ-loop a xs m from i₀ j₀ i j = m - j
 
 loop-holds : tie.Need-loop-holds Inv-loop μ-loop
-loop-holds c = (omega arith, c .before .before .pre .lines, omega arith, refl)
+loop-holds c = (omega arith, omega arith, refl)
 
-mul-t : tie.Need-mul-t Inv-loop μ-loop
-mul-t c = search needs
+add-line-at : tie.Need-add-line-at Inv-loop μ-loop
+add-line-at c = omega (arith, c .before .before .before .pre .few .1, laws.every-few)
 
-array-copy-out-t : tie.Need-array-copy-out-t Inv-loop μ-loop
-array-copy-out-t c = search needs
+line-at-requires : tie.Need-line-at-requires Inv-loop μ-loop
+line-at-requires c κs = search needs
 
 line-fits-requires : tie.Need-line-fits-requires Inv-loop μ-loop
 line-fits-requires c κs =
-    let a = c .before .before .before .before .before .args in
+    let a = c .before .before .before .before .args in
     let k = c .before .before .loop in
-    let n : length (a .ts .all) ≡ 6 = search (needs, length-mapped) in
-    let T = take (a .ts .m) (a .ts .all) in
-    let t = getD (a .ts .all) (k .j) none in
-    let u = laws.turn-at (a .ts .all) (a .ts .m) (k .j) none n (c .before .before .before .before .before .pre .few) (omega arith) in
-    let s = laws.sound-turn T (k .j) none t (u .inside) (u .same) (k .inv .1) in
-    let x = laws.need-turn T (k .j) none t (u .inside) (u .same) (k .i) _ (k .inv .2) in
-    (s .0, omega (arith, x, c .before .before .before .before .before .pre .numbers), c .before .before .before .before .before .pre .brief)
+    let t = c .line-at .result in
+    let u = laws.turn-at (a .ts .from) (a .ts .m) (k .j) t (c .before .before .before .before .pre .few .1) (omega arith) (c .line-at .ensures) in
+    let x = laws.need-turn (linesIn (a .ts)) (k .j) (octets 0) t (u .inside) (u .same) (k .i) _ (k .inv .1) in
+    (u .good, omega (arith, x, c .before .before .before .before .pre .numbers), c .before .before .before .before .pre .brief)
 
 returns : tie.Need-returns Inv-loop μ-loop
 returns c =
-    let a = c .before .before .before .before .before .before .before .args in
+    let a = c .before .before .before .before .before .before .args in
     let k = c .before .before .before .before .loop in
-    let n : length (a .ts .all) ≡ 6 = search (needs, length-mapped) in
-    let T = take (a .ts .m) (a .ts .all) in
-    let t = getD (a .ts .all) (k .j) none in
-    let u = laws.turn-at (a .ts .all) (a .ts .m) (k .j) none n (c .before .before .before .before .before .before .before .pre .few) (omega arith) in
-    sym (k .inv .3 ∙ lines-turn (a .a) (a .ts .all) (a .ts .m) (k .j) n (c .before .before .before .before .before .before .before .pre .few) (omega arith) (a .xs .now) (k .i) ∙ and-no _ (sym (c .before .line-fits .ensures) ∙ not-true (c .before .line-fits .result) (c .if1 .taken)))
+    let t = c .before .before .line-at .result in
+    let u = laws.turn-at (a .ts .from) (a .ts .m) (k .j) t (c .before .before .before .before .before .before .pre .few .1) (omega arith) (c .before .before .line-at .ensures) in
+    sym (k .inv .2 ∙ lines-turn (a .a) (linesIn (a .ts)) (k .j) (octets 0) t (u .inside) (u .same) (a .xs .now) (k .i) ∙ and-no _ (sym (c .before .line-fits .ensures) ∙ not-true (c .before .line-fits .result) (c .if1 .taken)))
 
 taken-requires : tie.Need-taken-requires Inv-loop μ-loop
 taken-requires c κs = search needs
 
 add-i : tie.Need-add-i Inv-loop μ-loop
 add-i c =
-    let a = c .before .before .before .before .before .before .before .before .args in
+    let a = c .before .before .before .before .before .before .before .args in
     let k = c .before .before .before .before .before .loop in
-    let n : length (a .ts .all) ≡ 6 = search (needs, length-mapped) in
-    let T = take (a .ts .m) (a .ts .all) in
-    let t = getD (a .ts .all) (k .j) none in
-    let u = laws.turn-at (a .ts .all) (a .ts .m) (k .j) none n (c .before .before .before .before .before .before .before .before .pre .few) (omega arith) in
-    let x = laws.need-turn T (k .j) none t (u .inside) (u .same) (k .i) _ (k .inv .2) in
-    omega (arith, x, c .taken .ensures, c .before .before .before .before .before .before .before .before .pre .numbers, c .before .before .before .before .before .before .before .before .pre .brief)
+    let t = c .before .before .before .line-at .result in
+    let u = laws.turn-at (a .ts .from) (a .ts .m) (k .j) t (c .before .before .before .before .before .before .before .pre .few .1) (omega arith) (c .before .before .before .line-at .ensures) in
+    let x = laws.need-turn (linesIn (a .ts)) (k .j) (octets 0) t (u .inside) (u .same) (k .i) _ (k .inv .1) in
+    omega (arith, x, c .taken .ensures, c .before .before .before .before .before .before .before .pre .numbers, c .before .before .before .before .before .before .before .pre .brief)
 
 add-j : tie.Need-add-j Inv-loop μ-loop
 add-j c = search needs
@@ -76,23 +65,20 @@ loop-less c = omega arith
 
 loop-again : tie.Need-loop-again Inv-loop μ-loop
 loop-again c =
-    let a = c .before .before .before .before .before .before .before .before .args in
+    let a = c .before .before .before .before .before .before .before .args in
     let k = c .before .before .before .before .before .loop in
-    let n : length (a .ts .all) ≡ 6 = search (needs, length-mapped) in
-    let T = take (a .ts .m) (a .ts .all) in
-    let t = getD (a .ts .all) (k .j) none in
-    let u = laws.turn-at (a .ts .all) (a .ts .m) (k .j) none n (c .before .before .before .before .before .before .before .before .pre .few) (omega arith) in
-    let s = laws.sound-turn T (k .j) none t (u .inside) (u .same) (k .inv .1) in
-    let x = laws.need-turn T (k .j) none t (u .inside) (u .same) (k .i) _ (k .inv .2) in
+    let T = linesIn (a .ts) in
+    let t = c .before .before .before .line-at .result in
+    let u = laws.turn-at (a .ts .from) (a .ts .m) (k .j) t (c .before .before .before .before .before .before .before .pre .few .1) (omega arith) (c .before .before .before .line-at .ensures) in
+    let x = laws.need-turn T (k .j) (octets 0) t (u .inside) (u .same) (k .i) _ (k .inv .1) in
     let o : k .i + own t ≡ k .i + c .taken .result = omega (arith, c .taken .ensures) in
-    (omega arith, s .1, omega (arith, x, c .taken .ensures), k .inv .3 ∙ lines-turn (a .a) (a .ts .all) (a .ts .m) (k .j) n (c .before .before .before .before .before .before .before .before .pre .few) (omega arith) (a .xs .now) (k .i) ∙ and-yes _ (sym (c .before .before .line-fits .ensures) ∙ not-false (c .before .before .line-fits .result) (c .before .if1 .left)) ∙ ap (λ (y : ℕ). fine (a .a) (drop (k .j + 1) T) (fill (drop (k .j + 1) T) (drop y (a .xs .now)))) o)
+    (omega arith, omega (arith, x, c .taken .ensures), k .inv .2 ∙ lines-turn (a .a) T (k .j) (octets 0) t (u .inside) (u .same) (a .xs .now) (k .i) ∙ and-yes _ (sym (c .before .before .line-fits .ensures) ∙ not-false (c .before .before .line-fits .result) (c .before .if1 .left)) ∙ ap (λ (y : ℕ). fine (a .a) (drop (k .j + 1) T) (fill (drop (k .j + 1) T) (drop y (a .xs .now)))) o)
 
 returns-2 : tie.Need-returns-2 Inv-loop μ-loop
 returns-2 c =
-    let a = c .before .before .before .before .args in
+    let a = c .before .before .before .args in
     let k = c .before .loop in
-    let n : length (a .ts .all) ≡ 6 = search (needs, length-mapped) in
-    sym (k .inv .3 ∙ lines-done (a .a) (a .ts .all) (a .ts .m) (k .j) n (c .before .before .before .before .pre .few) (omega arith) (drop (k .i) (a .xs .now)))
+    sym (k .inv .2 ∙ lines-done (a .a) (linesIn (a .ts)) (k .j) (laws.lines-end (a .ts .from) (a .ts .m) (k .j) (c .before .before .before .pre .few .1) (omega arith)) (drop (k .i) (a .xs .now)))
 
 pub lines-fit-spec : {M : Type 1} → statement M
 lines-fit-spec =
@@ -101,8 +87,8 @@ lines-fit-spec =
     Inv-loop
     μ-loop
     loop-holds
-    mul-t
-    array-copy-out-t
+    add-line-at
+    line-at-requires
     line-fits-requires
     returns
     taken-requires

@@ -1,12 +1,13 @@
 -- `writer::packets::put_packet` meets its contract. Assumes nothing.
 use mathlib.Core.Path.{subst, _≡_, ap}
+use Rattle.packet.proofs.Spans.{listed-code}
 use Rattle.writer.specs.Puts.{After}
 use Rattle.writer.specs.Parts.{headBits}
 use Prim.Native.Nat.{ℕ, _*_}
 use native.Mathlib.Omega.{arith}
 use lib.ListN.{length}
 use Rattle.writer.proofs.Shapes.{can-put-rows, have-put-rows}
-use Rattle.writer.proofs.Together.{code-sound, code-need, code-size, codes-few, size-least, content-small, packet-put}
+use Rattle.writer.proofs.Together.{code-need, code-size, codes-few, size-least, content-small, packet-put}
 use borrow.Author.Needs.{needs}
 use Rattle.writer.proofs.packets.put_packet.Statement.{statement}
 use Rattle.writer.proofs.packets.put_packet.Tie as tie
@@ -28,14 +29,14 @@ put-rows-requires c κs =
     let h = c .before .before .before .before .before .before .before .before .before .before .before .before .pre .0 in
     let n = codes-few (c .before .before .before .before .before .before .before .before .before .before .before .before .args .f) (c .before .before .before .before .before .before .before .before .before .before .before .before .args .body .now) (h .small) in
     let q = c .before .before .before .put-head .ensures .place in
-    can-put-rows _ _ (c .before .before .before .before .before .code-lines .ensures) code-sound _ _ _ _ code-need (omega arith) (omega (arith, code-size)) (omega arith) (h .counts .coded) (omega arith)
+    can-put-rows _ _ (listed-code (c .before .before .before .before .before .code-lines .ensures)) _ _ _ _ code-need (omega arith) (omega (arith, code-size)) (omega arith) (h .counts .coded) (omega arith)
 
 put-content-requires : tie.Need-put-content-requires
 put-content-requires c κs =
     let h = c .before .before .before .before .before .before .before .before .before .before .before .before .before .before .before .before .pre .0 in
     let n = codes-few (c .before .before .before .before .before .before .before .before .before .before .before .before .before .before .before .before .args .f) (c .before .before .before .before .before .before .before .before .before .before .before .before .before .before .before .before .args .body .now) (h .small) in
     let q = c .before .before .before .before .before .before .before .put-head .ensures .place in
-    let r = have-put-rows _ _ (c .before .before .before .before .before .before .before .before .before .code-lines .ensures) _ _ _ _ _ _ (c .before .before .before .put-rows .ensures) .place in
+    let r = have-put-rows _ _ (listed-code (c .before .before .before .before .before .before .before .before .before .code-lines .ensures)) _ _ _ _ _ _ (c .before .before .before .put-rows .ensures) .place in
     (h .lent, omega (arith, r, ap (λ (x : ℕ). c .before .before .before .before .before .before .before .before .before .before .before .before .before .before .before .before .args .f .codes * x) code-size))
 
 put-ending-requires : tie.Need-put-ending-requires
@@ -43,7 +44,7 @@ put-ending-requires c κs =
     let h = c .before .before .before .before .before .before .before .before .before .before .before .before .before .before .before .before .before .before .before .before .pre .0 in
     let n = codes-few (c .before .before .before .before .before .before .before .before .before .before .before .before .before .before .before .before .before .before .before .before .args .f) (c .before .before .before .before .before .before .before .before .before .before .before .before .before .before .before .before .before .before .before .before .args .body .now) (h .small) in
     let q = c .before .before .before .before .before .before .before .before .before .before .before .put-head .ensures .place in
-    let r = have-put-rows _ _ (c .before .before .before .before .before .before .before .before .before .before .before .before .before .code-lines .ensures) _ _ _ _ _ _ (c .before .before .before .before .before .before .before .put-rows .ensures) .place in
+    let r = have-put-rows _ _ (listed-code (c .before .before .before .before .before .before .before .before .before .before .before .before .before .code-lines .ensures)) _ _ _ _ _ _ (c .before .before .before .before .before .before .before .put-rows .ensures) .place in
     omega (arith, r, ap (λ (x : ℕ). c .before .before .before .before .before .before .before .before .before .before .before .before .before .before .before .before .before .before .before .before .args .f .codes * x) code-size, c .before .before .before .put-content .ensures .place, content-small (c .before .before .before .before .before .before .before .before .before .before .before .before .before .before .before .before .before .before .before .before .args .f .content) (c .before .before .before .before .before .before .before .before .before .before .before .before .before .before .before .before .before .before .before .before .args .body .now) (h .lent))
 
 same-length : tie.Need-same-length
@@ -58,7 +59,7 @@ returns c =
     let ls : length (f .signature) ≡ 64 = search (needs, c .before .before .before .before .before .before .before .before .before .before .before .before .before .before .before .before .before .before .before .before .before .before .before .good) in
     let h = subst (λ (s : ℕ). After (x .out .now) (c .before .before .before .before .before .before .before .before .before .before .before .before .before .before .put-head .last .0) 0 (headBits (f .typenumber) s (f .codes)) (c .before .before .before .before .before .before .before .before .before .before .before .before .before .before .put-head .result) 24) (c .before .before .before .before .before .before .before .before .before .before .before .before .before .before .before .before .before .before .before .before .before .before .before .pre .1) (c .before .before .before .before .before .before .before .before .before .before .before .before .before .before .put-head .ensures) in
     packet-put f (x .codes .now) (x .body .now) (c .before .before .before .before .before .before .before .before .before .before .before .before .before .before .before .before .before .before .before .before .before .before .before .pre .0 .counts) d lc ls _ (c .before .before .before .before .before .before .before .before .before .before .before .before .before .before .put-head .last .0) (c .before .before .before .before .before .before .before .before .before .before .put-rows .last .0) (c .before .before .before .before .before .before .put-content .last .0) _ _ _ _ _ h
-    (have-put-rows _ _ (c .before .before .before .before .before .before .before .before .before .before .before .before .before .before .before .before .code-lines .ensures) _ _ _ _ _ _ (c .before .before .before .before .before .before .before .before .before .before .put-rows .ensures)) (c .before .before .before .before .before .before .put-content .ensures) (c .before .before .put-ending .ensures)
+    (have-put-rows _ _ (listed-code (c .before .before .before .before .before .before .before .before .before .before .before .before .before .before .before .before .code-lines .ensures)) _ _ _ _ _ _ (c .before .before .before .before .before .before .before .before .before .before .put-rows .ensures)) (c .before .before .before .before .before .before .put-content .ensures) (c .before .before .put-ending .ensures)
 
 pub put-packet-spec : {M : Type 1} → statement M
 put-packet-spec =

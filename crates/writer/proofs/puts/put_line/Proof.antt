@@ -1,62 +1,49 @@
 -- `writer::puts::put_line` meets its contract. Assumes nothing.
+use denote.Ref.{now}
 use native.Mathlib.Omega.{arith}
-use Prim.Native.Nat.{_-_}
-use Rattle.writer.proofs.Line.{Going, going-first, going-turn, going-last}
+use Rattle.laws.specs.Bits.{bits}
+use Rattle.laws.proofs.Cases.{if-yes}
 use Rattle.format.proofs.Sound.{sound-is}
+use Rattle.writer.proofs.Line.{digits-put}
 use borrow.Author.Needs.{needs}
 use Rattle.writer.proofs.puts.put_line.Statement.{statement}
 use Rattle.writer.proofs.puts.put_line.Tie as tie
 
-abbrev Inv-loop : tie.InvT-loop
-Inv-loop out₀ p t xs i n w q₀ j₀ out q j = Going out₀ p t xs i out q j
+are-digits-requires : tie.Need-are-digits-requires
+are-digits-requires c κs = search needs
 
-abbrev μ-loop : tie.MeasureT-loop
-μ-loop out₀ p t xs i n w q₀ j₀ out q j = t .count - j
+put-halves-requires : tie.Need-put-halves-requires
+put-halves-requires c κs =
+    let t = c .before .before .before .before .before .args .t in
+    let p = c .before .before .before .before .before .pre in
+    let h = c .before .before .are-digits .ensures (c .before .if1 .taken) in
+    (sound-is t (p .0) .few, p .1, omega (arith, p .2, if-yes (t .count) 0 (h .0)))
 
-loop-holds : tie.Need-loop-holds Inv-loop μ-loop
-loop-holds c = going-first _ _ _ _ _
+put-each-requires : tie.Need-put-each-requires
+put-each-requires c κs = search needs
 
-add-number-of : tie.Need-add-number-of Inv-loop μ-loop
-add-number-of c = omega (arith, sound-is (c .before .before .before .before .args .t) (c .before .before .before .before .pre .0) .few, c .before .before .before .before .pre .3)
-
-number-of-requires : tie.Need-number-of-requires Inv-loop μ-loop
-number-of-requires c κs = search needs
-
-put-field-requires : tie.Need-put-field-requires Inv-loop μ-loop
-put-field-requires c κs = search needs
-
-add-q : tie.Need-add-q Inv-loop μ-loop
-add-q c = omega (arith, sound-is (c .before .before .before .before .before .before .before .before .before .args .t) (c .before .before .before .before .before .before .before .before .before .pre .0) .narrow, sound-is (c .before .before .before .before .before .before .before .before .before .args .t) (c .before .before .before .before .before .before .before .before .before .pre .0) .few)
-
-add-j : tie.Need-add-j Inv-loop μ-loop
-add-j c = search needs
-
-loop-less : tie.Need-loop-less Inv-loop μ-loop
-loop-less c = search needs
-
-loop-again : tie.Need-loop-again Inv-loop μ-loop
-loop-again c =
-    going-turn _ _ _ _ _ (c .before .before .before .before .before .before .loop .out) (c .before .before .put-field .last .0) (c .before .before .before .before .before .before .loop .q) (c .before .before .before .before .before .before .loop .j) (c .before .before .before .before .number-of .result) (c .before .before .before .before .before .before .before .before .before .pre .0) (c .before .before .before .before .before .before .before .before .before .pre .1) (c .before .before .before .before .before .before .before .before .before .pre .2) (c .before .before .before .before .before .before .loop .inv) (omega arith) (c .before .before .before .before .number-of .ensures) (c .before .before .put-field .ensures)
-
-same-length : tie.Need-same-length Inv-loop μ-loop
+same-length : tie.Need-same-length
 same-length c = search needs
 
-returns : tie.Need-returns Inv-loop μ-loop
-returns c = going-last _ _ _ _ _ _ _ _ (c .before .before .before .before .pre .2) (c .before .loop .inv) (omega arith)
+returns : tie.Need-returns
+returns c =
+    let a = c .before .before .before .before .before .before .before .before .args in
+    digits-put (a .t) (bits (now (a .out))) _ (now (a .xs)) (a .p) (a .i) (c .before .before .before .before .before .are-digits .ensures (c .before .before .before .before .if1 .taken)) (c .before .before .put-halves .ensures)
+
+same-length-2 : tie.Need-same-length-2
+same-length-2 c = search needs
+
+returns-2 : tie.Need-returns-2
+returns-2 c = search needs
 
 pub put-line-spec : {M : Type 1} → statement M
 put-line-spec =
     tie.close
     (tie.spec
-    Inv-loop
-    μ-loop
-    loop-holds
-    add-number-of
-    number-of-requires
-    put-field-requires
-    add-q
-    add-j
-    loop-less
-    loop-again
+    are-digits-requires
+    put-halves-requires
+    put-each-requires
     same-length
-    returns)
+    returns
+    same-length-2
+    returns-2)

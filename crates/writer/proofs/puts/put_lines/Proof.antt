@@ -1,54 +1,57 @@
 -- `writer::puts::put_lines` meets its contract. Assumes nothing.
-use mathlib.Core.Path.{_≡_}
 use Prim.Native.Nat.{_-_}
 use native.Mathlib.Omega.{arith}
-use lib.ListN.{length}
-use Rattle.laws.proofs.Elements.{length-mapped}
-use Rattle.writer.proofs.Lines.{Going, going-first, turn-asks, going-turn, going-last}
+use lib.ListN.{take, drop}
+use Rattle.format.specs.Format.{octets}
+use Rattle.packet.specs.InCode.{everyLine, linesIn}
+use Rattle.packet.proofs.Loops as laws
+use Rattle.writer.proofs.Lines.{Going, going-first, turn-fits, going-turn, going-last}
 use borrow.Author.Needs.{needs}
 use Rattle.writer.proofs.puts.put_lines.Statement.{statement}
 use Rattle.writer.proofs.puts.put_lines.Tie as tie
 
 abbrev Inv-loop : tie.InvT-loop
-Inv-loop out₀ p xs m ls q₀ i₀ j₀ out q i j = Going out₀ p xs m ls out q i j
+Inv-loop out₀ p xs m from q₀ i₀ j₀ out q i j = Going out₀ p xs m (take m (drop from everyLine)) out q i j
 
 abbrev μ-loop : tie.MeasureT-loop
-μ-loop out₀ p xs m ls q₀ i₀ j₀ out q i j = m - j
+μ-loop out₀ p xs m from q₀ i₀ j₀ out q i j = m - j
 
 loop-holds : tie.Need-loop-holds Inv-loop μ-loop
-loop-holds c = going-first _ _ _ _ (c .before .before .before .pre)
+loop-holds c = going-first _ _ _ (c .before .before .args .ts) (c .before .before .pre)
 
-mul-t : tie.Need-mul-t Inv-loop μ-loop
-mul-t c = search needs
+add-line-at : tie.Need-add-line-at Inv-loop μ-loop
+add-line-at c = omega (arith, c .before .before .before .before .pre .few .1, laws.every-few)
 
-array-copy-out-t : tie.Need-array-copy-out-t Inv-loop μ-loop
-array-copy-out-t c = search needs
+line-at-requires : tie.Need-line-at-requires Inv-loop μ-loop
+line-at-requires c κs = search needs
 
 put-line-requires : tie.Need-put-line-requires Inv-loop μ-loop
 put-line-requires c κs =
-    let ts = c .before .before .before .before .before .before .before .args .ts in
-    let n : length (ts .all) ≡ 6 = search (needs, length-mapped) in
-    let t = turn-asks (ts .all) (ts .m) (c .before .before .before .loop .j) n (c .before .before .before .before .before .before .before .pre .few) (omega arith) _ _ _ _ _ _ (c .before .before .before .loop .inv) in
-    (t .good, omega (arith, c .before .before .before .loop .inv .place, c .before .before .before .before .before .before .before .pre .few, c .before .before .before .before .before .before .before .pre .place), t .fits, c .before .before .before .before .before .before .before .pre .brief)
+    let ts = c .before .before .before .before .before .before .args .ts in
+    let h = c .before .before .before .before .before .before .pre in
+    let k = c .before .before .before .loop in
+    let t = c .before .line-at .result in
+    let u = laws.turn-at (ts .from) (ts .m) (k .j) t (h .few .1) (omega arith) (c .before .line-at .ensures) in
+    (u .good, omega (arith, k .inv .place, h .few .0, h .place), turn-fits (linesIn ts) (k .j) (octets 0) t (u .inside) (u .same) _ _ _ _ _ _ _ (k .inv), h .brief)
 
 width-requires : tie.Need-width-requires Inv-loop μ-loop
 width-requires c κs =
-    let ts = c .before .before .before .before .before .before .before .before .before .before .args .ts in
-    let n : length (ts .all) ≡ 6 = search (needs, length-mapped) in
-    turn-asks (ts .all) (ts .m) (c .before .before .before .before .before .before .loop .j) n (c .before .before .before .before .before .before .before .before .before .before .pre .few) (omega arith) _ _ _ _ _ _ (c .before .before .before .before .before .before .loop .inv) .good
+    let ts = c .before .before .before .before .before .before .before .before .before .args .ts in
+    laws.turn-at (ts .from) (ts .m) (c .before .before .before .before .before .before .loop .j) (c .before .before .before .before .line-at .result) (c .before .before .before .before .before .before .before .before .before .pre .few .1) (omega arith) (c .before .before .before .before .line-at .ensures) .good
 
 add-q : tie.Need-add-q Inv-loop μ-loop
-add-q c = omega (arith, c .width .ensures .1, c .before .before .before .before .before .before .before .loop .inv .place, c .before .before .before .before .before .before .before .before .before .before .before .pre .few, c .before .before .before .before .before .before .before .before .before .before .before .pre .place)
+add-q c = omega (arith, c .width .ensures .1, c .before .before .before .before .before .before .before .loop .inv .place, c .before .before .before .before .before .before .before .before .before .before .pre .few .0, c .before .before .before .before .before .before .before .before .before .before .pre .place)
 
 taken-requires : tie.Need-taken-requires Inv-loop μ-loop
 taken-requires c κs = search needs
 
 add-i : tie.Need-add-i Inv-loop μ-loop
 add-i c =
-    let ts = c .before .before .before .before .before .before .before .before .before .before .before .before .args .ts in
-    let n : length (ts .all) ≡ 6 = search (needs, length-mapped) in
-    let t = turn-asks (ts .all) (ts .m) (c .before .before .before .before .before .before .before .before .loop .j) n (c .before .before .before .before .before .before .before .before .before .before .before .before .pre .few) (omega arith) _ _ _ _ _ _ (c .before .before .before .before .before .before .before .before .loop .inv) in
-    omega (arith, t .fits, c .taken .ensures)
+    let ts = c .before .before .before .before .before .before .before .before .before .before .before .args .ts in
+    let k = c .before .before .before .before .before .before .before .before .loop in
+    let t = c .before .before .before .before .before .before .line-at .result in
+    let u = laws.turn-at (ts .from) (ts .m) (k .j) t (c .before .before .before .before .before .before .before .before .before .before .before .pre .few .1) (omega arith) (c .before .before .before .before .before .before .line-at .ensures) in
+    omega (arith, turn-fits (linesIn ts) (k .j) (octets 0) t (u .inside) (u .same) _ _ _ _ _ _ _ (k .inv), c .taken .ensures)
 
 add-j : tie.Need-add-j Inv-loop μ-loop
 add-j c = search needs
@@ -58,18 +61,19 @@ loop-less c = omega arith
 
 loop-again : tie.Need-loop-again Inv-loop μ-loop
 loop-again c =
-    let ts = c .before .before .before .before .before .before .before .before .before .before .before .before .args .ts in
-    let n : length (ts .all) ≡ 6 = search (needs, length-mapped) in
-    going-turn (ts .all) (ts .m) (c .before .before .before .before .before .before .before .before .loop .j) n (c .before .before .before .before .before .before .before .before .before .before .before .before .pre .few) (omega arith) _ _ _ (c .before .before .before .before .before .before .before .before .loop .out) (c .before .before .before .before .put-line .last .0) (c .before .before .before .before .before .before .before .before .loop .q) (c .before .before .before .before .before .before .before .before .loop .i) _ _ (c .before .before .before .before .before .before .before .before .loop .inv) (c .before .before .before .before .put-line .ensures) (c .before .width .ensures .0) (c .taken .ensures)
+    let ts = c .before .before .before .before .before .before .before .before .before .before .before .args .ts in
+    let k = c .before .before .before .before .before .before .before .before .loop in
+    let t = c .before .before .before .before .before .before .line-at .result in
+    let u = laws.turn-at (ts .from) (ts .m) (k .j) t (c .before .before .before .before .before .before .before .before .before .before .before .pre .few .1) (omega arith) (c .before .before .before .before .before .before .line-at .ensures) in
+    going-turn (linesIn ts) (k .j) (octets 0) t (u .inside) (u .same) (u .good) _ _ _ _ (k .out) (c .before .before .before .before .put-line .last .0) (k .q) (k .i) _ _ (omega arith) (k .inv) (c .before .before .before .before .put-line .ensures) (c .before .width .ensures .0) (c .taken .ensures)
 
 same-length : tie.Need-same-length Inv-loop μ-loop
 same-length c = c .before .loop .inv .kept
 
 returns : tie.Need-returns Inv-loop μ-loop
 returns c =
-    let ts = c .before .before .before .before .before .args .ts in
-    let n : length (ts .all) ≡ 6 = search (needs, length-mapped) in
-    going-last _ _ _ _ _ _ _ _ _ n (c .before .before .before .before .before .pre .few) (c .before .loop .inv) (omega arith)
+    let ts = c .before .before .before .before .args .ts in
+    going-last _ _ _ _ _ _ _ _ _ (laws.lines-end (ts .from) (ts .m) (c .before .loop .j) (c .before .before .before .before .pre .few .1) (omega arith)) (c .before .loop .inv)
 
 pub put-lines-spec : {M : Type 1} → statement M
 put-lines-spec =
@@ -78,8 +82,8 @@ put-lines-spec =
     Inv-loop
     μ-loop
     loop-holds
-    mul-t
-    array-copy-out-t
+    add-line-at
+    line-at-requires
     put-line-requires
     width-requires
     add-q

@@ -2,8 +2,8 @@
 use mathlib.Core.Path.{_≡_, _∙_, subst}
 use native.Mathlib.Omega.{arith}
 use lib.ListN.{length}
+use Rattle.packet.proofs.Spans.{Listed, stands}
 use Rattle.packet.specs.declared.Kind.{Kind}
-use Rattle.packet.specs.InCode.{Listed}
 use Rattle.packet.specs.Table.{rowOf}
 use Rattle.packet.specs.Content.{kindFor}
 use Rattle.packet.specs.Writing.{rowFor}
@@ -32,15 +32,15 @@ slice-aggregate-lines-fit c = search needs
 lines-fit-requires : tie.Need-lines-fit-requires
 lines-fit-requires c κs =
     let x = c .before .before .before .before .before .before .args in
-    let w : Listed (c .before .before .before .before .row-of .result .after) (rowFor (x .c) .after) = subst (λ (f : Kind). Listed (c .before .before .before .before .row-of .result .after) (rowOf f .after)) (c .before .before .before .before .before .kind-for .ensures) (c .before .before .before .before .row-of .ensures .last) in
+    let w : Listed (c .before .before .before .before .row-of .result .after) (rowFor (x .c) .after) = subst (λ (f : Kind). Listed (c .before .before .before .before .row-of .result .after) (rowOf f .after)) (c .before .before .before .before .before .kind-for .ensures) (stands _ (c .before .before .before .before .row-of .ensures) .last) in
     let n = good (kindFor (x .c)) .last in
     let l = c .before .widened .ensures .1 in
-    can-put _ _ w (good (kindFor (x .c)) .after) _ _ (omega arith) (omega arith) (omega arith)
+    can-put _ _ w _ _ (omega arith) (omega arith) (omega arith)
 
 returns : tie.Need-returns
 returns c =
     let x = c .before .before .before .before .before .before .before .args in
-    let w : Listed (c .before .before .before .before .before .row-of .result .after) (rowFor (x .c) .after) = subst (λ (f : Kind). Listed (c .before .before .before .before .before .row-of .result .after) (rowOf f .after)) (c .before .before .before .before .before .before .kind-for .ensures) (c .before .before .before .before .before .row-of .ensures .last) in
+    let w : Listed (c .before .before .before .before .before .row-of .result .after) (rowFor (x .c) .after) = subst (λ (f : Kind). Listed (c .before .before .before .before .before .row-of .result .after) (rowOf f .after)) (c .before .before .before .before .before .before .kind-for .ensures) (stands _ (c .before .before .before .before .before .row-of .ensures) .last) in
     let d : length (x .t3) ≡ 35 = search needs in
     c .lines-fit .ensures ∙ have-fit _ _ w _ (c .before .before .widened .result) _ (back-fill (x .c) (x .t3) d (c .before .before .widened .result) (c .before .before .widened .ensures .0) (c .before .before .widened .ensures .1))
 

@@ -2,9 +2,9 @@
 use mathlib.Core.Path.{_≡_, sym, ap, _∙_, subst}
 use Prim.Native.Nat.{ℕ}
 use native.Mathlib.Omega.{arith}
+use Rattle.packet.proofs.Spans.{Listed, stands}
 use Rattle.format.specs.Format.{fine, fill, times}
 use Rattle.packet.specs.declared.Kind.{Kind}
-use Rattle.packet.specs.InCode.{Listed}
 use Rattle.packet.specs.Table.{rowOf}
 use Rattle.packet.specs.Content.{kindFor, countFor}
 use Rattle.packet.specs.Reading.{sizesOf, hasEntries}
@@ -36,19 +36,19 @@ rows-fit-requires : tie.Need-rows-fit-requires
 rows-fit-requires c κs =
     let x = c .before .before .before .before .before .before .before .before .args in
     let f = c .before .before .before .before .before .before .kind-for .ensures in
-    let w : Listed (c .before .before .before .row-of .result .each) (rowFor (x .c) .each) = subst (λ (f : Kind). Listed (c .before .before .before .row-of .result .each) (rowOf f .each)) f (c .before .before .before .row-of .ensures .rows) in
+    let w : Listed (c .before .before .before .row-of .result .each) (rowFor (x .c) .each) = subst (λ (f : Kind). Listed (c .before .before .before .row-of .result .each) (rowOf f .each)) f (stands _ (c .before .before .before .row-of .ensures) .rows) in
     let z = c .before .before .sizes-of .ensures ∙ ap sizesOf f in
     let r = row-is (x .c) _ z in
     let h = c .before .before .before .before .before .before .before .before .pre .1 (sym (c .before .before .before .before .before .has-entries .ensures ∙ ap hasEntries f) ∙ c .before .before .before .before .if1 .taken) in
     let k = c .count-for .ensures in
     let g = good (kindFor (x .c)) in
-    can-put-rows _ _ w (g .each) _ _ _ _ (sym r) (omega (arith, row-few (x .c) _ z)) (omega (arith, g .row)) (omega (arith, h .few, k)) (rw (k, r) (h .numbers)) (omega arith)
+    can-put-rows _ _ w _ _ _ _ (sym r) (omega (arith, row-few (x .c) _ z)) (omega (arith, g .row)) (omega (arith, h .few, k)) (rw (k, r) (h .numbers)) (omega arith)
 
 returns : tie.Need-returns
 returns c =
     let x = c .before .before .before .before .before .before .before .before .before .args in
     let f = c .before .before .before .before .before .before .before .kind-for .ensures in
-    let w : Listed (c .before .before .before .before .row-of .result .each) (rowFor (x .c) .each) = subst (λ (f : Kind). Listed (c .before .before .before .before .row-of .result .each) (rowOf f .each)) f (c .before .before .before .before .row-of .ensures .rows) in
+    let w : Listed (c .before .before .before .before .row-of .result .each) (rowFor (x .c) .each) = subst (λ (f : Kind). Listed (c .before .before .before .before .row-of .result .each) (rowOf f .each)) f (stands _ (c .before .before .before .before .row-of .ensures) .rows) in
     let h = c .before .before .before .before .before .before .before .before .before .pre .1 (sym (c .before .before .before .before .before .before .has-entries .ensures ∙ ap hasEntries f) ∙ c .before .before .before .before .before .if1 .taken) in
     let k : c .before .count-for .result ≡ countFor (x .c) (x .body .now) = c .before .count-for .ensures in
     c .rows-fit .ensures ∙ have-fit-rows _ _ w (x .answer) _ (x .body .now) ∙ ap (λ (n : ℕ). fine (x .answer) (times n (rowFor (x .c) .each)) (fill (times n (rowFor (x .c) .each)) (x .body .now))) k ∙ entries-are (x .answer) (x .c) (x .body .now) h

@@ -1,5 +1,6 @@
 -- `writer::refusals::lent_bad` meets its contract. Assumes nothing.
 use mathlib.Core.Path.{refl, sym, ap, _∙_}
+use Rattle.packet.proofs.Spans.{stands}
 use Rattle.packet.specs.declared.Kind.{Kind}
 use Rattle.packet.specs.Table.{rowOf}
 use Rattle.packet.specs.Reading.{sizesOf}
@@ -38,22 +39,22 @@ enum-told-4 c = search needs
 returns : tie.Need-returns
 returns c =
     bad-by (c .before .before .before .before .before .before .args .c) _ (c .before .before .before .sizes-of .ensures ∙ ap sizesOf (c .before .before .before .before .before .kind-for .ensures)) _ (c .before .before .before .before .before .before .args .lent) (c .before .before .before .before .count-for .ensures) _ _
-    (sym (c .before .before .row-of .ensures .same ∙ ap (λ (f : Kind). rowOf f .counting) (c .before .before .before .before .before .kind-for .ensures)) ∙ c .enum-told .given .1) refl
+    (sym (stands _ (c .before .before .row-of .ensures) .same ∙ ap (λ (f : Kind). rowOf f .counting) (c .before .before .before .before .before .kind-for .ensures)) ∙ c .enum-told .given .1) refl
 
 returns-2 : tie.Need-returns-2
 returns-2 c =
     bad-by (c .before .before .before .before .before .before .before .args .c) _ (c .before .before .before .before .sizes-of .ensures ∙ ap sizesOf (c .before .before .before .before .before .before .kind-for .ensures)) _ (c .before .before .before .before .before .before .before .args .lent) (c .before .before .before .before .before .count-for .ensures) _ _
-    (sym (c .before .before .before .row-of .ensures .same ∙ ap (λ (f : Kind). rowOf f .counting) (c .before .before .before .before .before .before .kind-for .ensures)) ∙ c .before .enum-told2 .given .1) (c .rows-bad .ensures)
+    (sym (stands _ (c .before .before .before .row-of .ensures) .same ∙ ap (λ (f : Kind). rowOf f .counting) (c .before .before .before .before .before .before .kind-for .ensures)) ∙ c .before .enum-told2 .given .1) (c .rows-bad .ensures)
 
 returns-3 : tie.Need-returns-3
 returns-3 c =
     bad-by (c .before .before .before .before .before .before .args .c) _ (c .before .before .before .sizes-of .ensures ∙ ap sizesOf (c .before .before .before .before .before .kind-for .ensures)) _ (c .before .before .before .before .before .before .args .lent) (c .before .before .before .before .count-for .ensures) _ _
-    (sym (c .before .before .row-of .ensures .same ∙ ap (λ (f : Kind). rowOf f .counting) (c .before .before .before .before .before .kind-for .ensures)) ∙ c .enum-told3 .given .1) refl
+    (sym (stands _ (c .before .before .row-of .ensures) .same ∙ ap (λ (f : Kind). rowOf f .counting) (c .before .before .before .before .before .kind-for .ensures)) ∙ c .enum-told3 .given .1) refl
 
 returns-4 : tie.Need-returns-4
 returns-4 c =
     bad-by (c .before .before .before .before .before .before .args .c) _ (c .before .before .before .sizes-of .ensures ∙ ap sizesOf (c .before .before .before .before .before .kind-for .ensures)) _ (c .before .before .before .before .before .before .args .lent) (c .before .before .before .before .count-for .ensures) _ _
-    (sym (c .before .before .row-of .ensures .same ∙ ap (λ (f : Kind). rowOf f .counting) (c .before .before .before .before .before .kind-for .ensures)) ∙ c .enum-told4 .given .1) refl
+    (sym (stands _ (c .before .before .row-of .ensures) .same ∙ ap (λ (f : Kind). rowOf f .counting) (c .before .before .before .before .before .kind-for .ensures)) ∙ c .enum-told4 .given .1) refl
 
 pub lent-bad-spec : {M : Type 1} → statement M
 lent-bad-spec =
