@@ -11,7 +11,7 @@ ghost use lib.Seq.{sets};
 ghost use Rattle.block.specs.Block.{syndrome, isValid};
 ghost use Rattle.receiver.specs.Rule as rule;
 ghost use Rattle.receiver.specs.Receive.{joined};
-ghost use Rattle.receiver.specs.Search.{ahead, heardFrom, Holds, Takes, Searched};
+ghost use Rattle.receiver.specs.Search.{ahead, heardFrom, Holds, Takes, Searched, which, letterAt};
 
 // Whether a frame stands at a place, its information, and how many of its blocks were mended.
 pub(crate) struct Found {
@@ -101,33 +101,54 @@ pub(crate) fn one(b: bool) -> u8
     if b { 1 } else { 0 }
 }
 
-// Mends the four blocks at a place.
+// The letter of a frame's block k.
+fn letter_at(k: usize) -> Letter
+    ensures { λ r. ⌜ r ≡ letterAt k ⌝ }
+{
+    match k {
+        0 => Letter::A,
+        1 => Letter::B,
+        2 => Letter::C,
+        _ => Letter::D,
+    }
+}
+
+// Block k of two and two, each two in the first 52 of 64 bits.
+fn block_at(x: u64, y: u64, k: usize) -> u32
+    ensures { λ r. ⌜ r ≡ which (x / 274877906944) (x / 4096 % 67108864) (y / 274877906944) (y / 4096 % 67108864) k ⌝ }
+{
+    match k {
+        0 => (x >> 38) as u32,
+        1 => ((x >> 12) % 0x400_0000) as u32,
+        2 => (y >> 38) as u32,
+        _ => ((y >> 12) % 0x400_0000) as u32,
+    }
+}
+
+// Mends the four blocks at a place, in a loop: so the table is asked at one place of the code, and stands in it where it is asked.
 fn mended_at(b: &[u8], end: usize, from: usize) -> Found
     requires { ⌜ Holds (now b) end × (from + 104 ≤ end) ⌝ }
     ensures { λ r. ⌜ Takes true (ahead (now (b .entry)) end from) r ⌝ }
 {
     let x = window(b, from);
-    let a = mend::mended((x >> 38) as u32, Letter::A);
-    if !a.found {
-        return no_frame();
-    }
-    let p = mend::mended(((x >> 12) % 0x400_0000) as u32, Letter::B);
-    if !p.found {
-        return no_frame();
-    }
     let y = window(b, from + 52);
-    let q = mend::mended((y >> 38) as u32, Letter::C);
-    if !q.found {
-        return no_frame();
-    }
-    let d = mend::mended(((y >> 12) % 0x400_0000) as u32, Letter::D);
-    if !d.found {
-        return no_frame();
+    let mut words: u64 = 0;
+    let mut changed: u8 = 0;
+    let mut k: usize = 0;
+    while k < 4 {
+        let letter = letter_at(k);
+        let outcome = mend::mended(block_at(x, y, k), letter);
+        if !outcome.found {
+            return no_frame();
+        }
+        words = (words << 16) + (outcome.block / 1024) as u64;
+        changed += one(outcome.changed);
+        k += 1;
     }
     Found {
         frame: true,
-        words: words_of(a.block, p.block, q.block, d.block),
-        mended: one(a.changed) + one(p.changed) + one(q.changed) + one(d.changed),
+        words,
+        mended: changed,
     }
 }
 
