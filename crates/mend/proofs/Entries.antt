@@ -1,23 +1,25 @@
 -- The entries of the table: where each stands among its four, and what it tells. Assumes nothing.
-use mathlib.Core.Path.{_≡_, sym, ap, ap₂, _∙_, subst}
+use mathlib.Core.Path.{_≡_, refl, sym, ap, ap₂, _∙_, subst}
 use mathlib.Core.Bool.{Bool, true, true≢false, not}
-use Prim.Native.Nat.{ℕ, zero, suc, _+_, _*_, _/_, _%_, _^_, _<_}
-use native.Mathlib.Nat.{add-zero}
+use Prim.Native.Nat.{ℕ, zero, suc, _+_, _*_, _/_, _%_, _^_, _<_, _≤_}
+use native.Mathlib.Nat.{add-zero, mod-lt}
 use native.Mathlib.Omega.{arith}
-use borrow.Author.Tests.{eq-eqb, ne-eqb, eqb-true}
-use lib.Dec.{eqb, ltb}
-use lib.Pow.{split}
-use lib.Bits.{xor-shr, xor-lt}
+use borrow.Author.Tests.{lt-ltb, le-ltb, eq-eqb, ne-eqb, eqb-true}
+use lib.Dec.{eqb}
+use lib.Pow.{split, pow-pos}
+use lib.Bits.{xor-shr, xor-mod, xor-lt}
 use Rattle.laws.specs.Poly.{_⊕_, reduce, remainder}
-use Rattle.laws.proofs.Cases.{if-yes, if-no, and-both}
+use Rattle.laws.proofs.Cases.{if-yes, if-no, and-yes, and-no}
 use Rattle.laws.proofs.Elements.{by-test}
+use Rattle.laws.proofs.Remainder.{remainder-lt}
+use Rattle.laws.proofs.Xor.{xor-assoc, xor-undo}
 use Rattle.block.specs.declared.Letter.{Letter}
-use Rattle.block.specs.Block.{offsetOf, syndrome, checkWord, carries, isValid}
-use Rattle.block.proofs.Validity.{check-word-small}
+use Rattle.block.specs.Block.{generator, syndrome, checkWord}
+use Rattle.block.proofs.Validity.{by-parts}
 use Rattle.mend.specs.Mend.{nothing, mendedOf}
-use Rattle.mend.specs.Table.{none, changeFor, entryOf, entryFor, fourOf, Corrects}
-use Rattle.mend.proofs.Rule.{entry-apart}
-use Rattle.mend.proofs.OnlyOne.{indexOf, index-found, index-lt, fits-is, change-right, entry-fits, entry-none, entry-given}
+use Rattle.mend.specs.Table.{none, changeFor, entryOf, entryFor, fourOf, mendedBy, Corrects}
+use Rattle.mend.proofs.Rule.{table-corrects, entry-apart}
+use Rattle.mend.proofs.OnlyOne.{indexOf, index-lt, change-right, entry-none, entry-given}
 
 -- the entry of a change that is one
 pub entry-some : (s : ℕ) → (changeFor s ≡ none → ⊥) → entryFor s ≡ changeFor s / 2 ^ 10
@@ -80,61 +82,64 @@ both-zero s p e n =
     ∙ sym
     (ne-eqb s 0 (λ z. absurd (true≢false (sym (eq-eqb p 0 (e .only 0 0 (omega arith) (omega arith) (sym z))) ∙ y)))))
 
--- a valid block is its information and the check word of that
-parts-of : (c : ℕ) (letter : Letter) → isValid c letter ≡ true → c / 2 ^ 10 * 2 ^ 10 + checkWord (c / 2 ^ 10) (offsetOf letter) ≡ c
-unfolding isValid carries
-parts-of c letter t =
-    ap (λ (x : ℕ). c / 2 ^ 10 * 2 ^ 10 + x)
-    (eqb-true (checkWord (c / 2 ^ 10) (offsetOf letter)) (c % 2 ^ 10) (and-both (ltb c (2 ^ 26)) (eqb (checkWord (c / 2 ^ 10) (offsetOf letter)) (c % 2 ^ 10)) t .1))
-    ∙ split c 10
+-- what is no such bits, no such remainder, or has no entry
+pub by-wide : (bits rest : ℕ) → 2 ^ 26 ≤ bits → nothing ≡ mendedBy bits rest
+unfolding mendedBy
+by-wide bits rest h = sym (if-no _ nothing (and-no _ (le-ltb bits (2 ^ 26) h)))
 
-pub word-lt : (info w o : ℕ) (letter : Letter) → w ≡ syndrome (info * 2 ^ 10) → o ≡ offsetOf letter → (w ⊕ o) < 1024
+pub by-high : (bits rest : ℕ) → bits < 2 ^ 26 → 1024 ≤ rest → nothing ≡ mendedBy bits rest
+unfolding mendedBy
+by-high bits rest k h = sym (if-no _ nothing (and-yes _ (lt-ltb bits (2 ^ 26) k) ∙ and-no _ (le-ltb rest 1024 h)))
+
+lost-by : (bits rest : ℕ) → bits < 2 ^ 26 → rest < 1024 → changeFor rest ≡ none → nothing ≡ mendedBy bits rest
+unfolding mendedBy
+lost-by bits rest k h e =
+    sym (if-no _ nothing (and-yes _ (lt-ltb bits (2 ^ 26) k) ∙ and-yes _ (lt-ltb rest 1024 h) ∙ ap not (eq-eqb (changeFor rest) none e)))
+
+given-by : (bits rest : ℕ) → bits < 2 ^ 26 → rest < 1024 → (changeFor rest ≡ none → ⊥) → record { found = true; changed = not (eqb rest 0); block = bits ⊕ changeFor rest } ≡ mendedBy bits rest
+unfolding mendedBy
+given-by bits rest k h n =
+    sym (if-yes _ nothing (and-yes _ (lt-ltb bits (2 ^ 26) k) ∙ and-yes _ (lt-ltb rest 1024 h) ∙ ap not (ne-eqb (changeFor rest) none n)))
+
+pub by-none : (bits rest e : ℕ) → bits < 2 ^ 26 → rest < 1024 → e ≡ entryFor rest → e ≡ 65535 → nothing ≡ mendedBy bits rest
+by-none bits rest e k h g z = lost-by bits rest k h (told-none rest h (sym g ∙ z))
+
+-- the parts of the changed block
+pub info-lt : (bits rest e : ℕ) → bits < 2 ^ 26 → rest < 1024 → e ≡ entryFor rest → (bits / 2 ^ 10 ⊕ e) < 2 ^ 16
+info-lt bits rest e k h g = xor-lt 16 (bits / 2 ^ 10) e (omega arith) (subst (λ (x : ℕ). x < 2 ^ 16) (sym g) (entry-small rest h))
+
+pub check-lt : (bits rest e r : ℕ) → rest < 1024 → r ≡ syndrome (e * 2 ^ 10) → ((bits % 2 ^ 10 ⊕ r) ⊕ rest) < 2 ^ 10
+unfolding syndrome
+check-lt bits rest e r h g =
+    xor-lt 10 (bits % 2 ^ 10 ⊕ r) rest
+    (xor-lt 10 (bits % 2 ^ 10) r (mod-lt bits (pow-pos 10)) (subst (λ (x : ℕ). x < 2 ^ 10) (sym g) (remainder-lt 10 generator refl 26 (e * 2 ^ 10)))) h
+
+-- the remainder of a change is that of its information and its check bits
+low-bits : (p r rest : ℕ) → syndrome p ≡ rest → r ≡ syndrome (p / 2 ^ 10 * 2 ^ 10) → r ⊕ rest ≡ p % 2 ^ 10
 unfolding checkWord
-word-lt info w o letter ew eo = subst (λ (x : ℕ). x < 1024) (sym (ap₂ (λ (x y : ℕ). x ⊕ y) ew eo)) (check-word-small info letter)
+low-bits p r rest e g = ap (λ (x : ℕ). r ⊕ x) (sym e ∙ by-parts p ∙ ap (λ (x : ℕ). x ⊕ p % 2 ^ 10) (sym g)) ∙ xor-undo r (p % 2 ^ 10)
 
-module _ (bits : ℕ) (letter : Letter) (o r e : ℕ) (eo : o ≡ offsetOf letter) (er : r ≡ syndrome (bits / 2 ^ 10 * 2 ^ 10)) where
-  abbrev asked : ℕ
-  asked = (r ⊕ o) ⊕ bits % 2 ^ 10
+pub by-some : (bits rest e r : ℕ) → bits < 2 ^ 26 → rest < 1024 → e ≡ entryFor rest → (e ≡ 65535 → ⊥) → r ≡ syndrome (e * 2 ^ 10)
+    → record { found = true; changed = not (eqb rest 0); block = (bits / 2 ^ 10 ⊕ e) * 2 ^ 10 + ((bits % 2 ^ 10 ⊕ r) ⊕ rest) } ≡ mendedBy bits rest
+by-some bits rest e r k h g n er =
+    let p = changeFor rest in
+    let some : p ≡ none → ⊥ = told-some rest (λ t. n (g ∙ t)) in
+    let top : e ≡ p / 2 ^ 10 = g ∙ entry-some rest some in
+    let low : r ⊕ rest ≡ p % 2 ^ 10 = low-bits p r rest (table-corrects rest h .right some .0) (er ∙ ap (λ (x : ℕ). syndrome (x * 2 ^ 10)) top) in
+    ap (λ (y : ℕ). record { found = true; changed = not (eqb rest 0); block = y })
+    (ap₂ (λ (x y : ℕ). x * 2 ^ 10 + y) (ap (λ (x : ℕ). bits / 2 ^ 10 ⊕ x) top ∙ sym (xor-shr bits p 10))
+    (xor-assoc (bits % 2 ^ 10) r rest ∙ ap (λ (x : ℕ). bits % 2 ^ 10 ⊕ x) low ∙ sym (xor-mod bits p 10))
+    ∙ split (bits ⊕ p) 10)
+    ∙ given-by bits rest k h some
 
-  is-index : asked ≡ indexOf bits letter
-  is-index = index-found bits letter o r eo er
-
-  pub asked-lt : asked < 1024
-  asked-lt = subst (λ (x : ℕ). x < 1024) (sym is-index) (index-lt bits letter)
-
-  module _ (ee : e ≡ entryFor asked) where
-    abbrev p : ℕ
-    p = changeFor (indexOf bits letter)
-
-    told : e ≡ entryFor (indexOf bits letter)
-    told = ee ∙ ap entryFor is-index
-
-    pub no-entry : e ≡ 65535 → nothing ≡ mendedOf bits letter
-    no-entry z =
-        sym (entry-none bits letter p (change-right bits letter) (told-none (indexOf bits letter) (index-lt bits letter) (sym told ∙ z)))
-
-    pub right-lt : bits < 2 ^ 26 → (bits / 2 ^ 10 ⊕ e) < 65536
-    right-lt h =
-        xor-lt 16 (bits / 2 ^ 10) e (omega arith)
-        (subst (λ (x : ℕ). x < 65536) (sym told) (entry-small (indexOf bits letter) (index-lt bits letter)))
-
-    module _ (h : bits < 2 ^ 26) (n : e ≡ 65535 → ⊥) where
-      some : p ≡ none → ⊥
-      some = told-some (indexOf bits letter) (λ t. n (told ∙ t))
-
-      top : bits / 2 ^ 10 ⊕ e ≡ (bits ⊕ p) / 2 ^ 10
-      top = ap (λ (x : ℕ). bits / 2 ^ 10 ⊕ x) (told ∙ entry-some (indexOf bits letter) some) ∙ sym (xor-shr bits p 10)
-
-      whole : (w : ℕ) → w ≡ syndrome ((bits / 2 ^ 10 ⊕ e) * 2 ^ 10) → (bits / 2 ^ 10 ⊕ e) * 2 ^ 10 + (w ⊕ o) ≡ bits ⊕ p
-      unfolding checkWord
-      whole w ew =
-          ap₂ (λ (x y : ℕ). (bits / 2 ^ 10 ⊕ e) * 2 ^ 10 + (x ⊕ y)) ew eo
-          ∙ ap (λ (x : ℕ). x * 2 ^ 10 + (syndrome (x * 2 ^ 10) ⊕ offsetOf letter)) top
-          ∙ parts-of (bits ⊕ p) letter (fits-is bits letter (bits ⊕ p) (entry-fits bits letter p (change-right bits letter) h some) .0)
-
-      pub by-entry : (w : ℕ) → w ≡ syndrome ((bits / 2 ^ 10 ⊕ e) * 2 ^ 10)
-          → record { found = true; changed = not (eqb asked 0); block = (bits / 2 ^ 10 ⊕ e) * 2 ^ 10 + (w ⊕ o) } ≡ mendedOf bits letter
-      by-entry w ew =
-          ap₂ (λ (x : Bool) (y : ℕ). record { found = true; changed = not x; block = y })
-          (ap (λ (x : ℕ). eqb x 0) is-index ∙ sym (both-zero (indexOf bits letter) p (change-right bits letter) some)) (whole w ew)
-          ∙ entry-given bits letter p (change-right bits letter) h some
+-- ---- A remainder less the letter's offset gives the block of the letter, as it is sought among all.
+pub by-letter : (bits : ℕ) (letter : Letter) → bits < 2 ^ 26 → mendedBy bits (indexOf bits letter) ≡ mendedOf bits letter
+by-letter bits letter h =
+    let s = indexOf bits letter in
+    let l = index-lt bits letter in
+    let right = change-right bits letter in
+    by-change s (λ e. sym (lost-by bits s h l e) ∙ sym (entry-none bits letter (changeFor s) right e))
+    (λ n.
+    sym (given-by bits s h l n)
+    ∙ ap (λ (x : Bool). record { found = true; changed = not x; block = bits ⊕ changeFor s }) (sym (both-zero s (changeFor s) right n))
+    ∙ entry-given bits letter (changeFor s) right h n)

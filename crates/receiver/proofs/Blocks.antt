@@ -2,16 +2,26 @@
 use mathlib.Core.Path.{_≡_, refl, sym, ap, ap₂, _∙_, subst}
 use mathlib.Core.Bool.{true, false}
 use mathlib.Core.List.{List}
-use Prim.Native.Nat.{ℕ, zero, suc, _+_, _*_, _/_, _%_, _<_, _≤_}
+use Prim.Native.Nat.{ℕ, zero, suc, _+_, _*_, _/_, _%_, _^_, _<_, _≤_}
 use native.Mathlib.Decide.{decLt}
 use native.Mathlib.Omega.{arith}
+use lib.Pow.{split}
+use lib.Bits.{xor-shr, xor-mod}
 use Rattle.laws.specs.Bits.{at, bits}
+use Rattle.laws.specs.Poly.{_⊕_}
+use Rattle.laws.proofs.Bits.{at-small}
+use Rattle.block.specs.Block.{offsetOf, syndrome}
 use Rattle.block.specs.declared.Letter.{Letter}
+use Rattle.block.specs.declared.Letter.the-variants.{A, B, C, D}
 use Rattle.mend.specs.declared.Outcome.{Outcome}
 use Rattle.mend.specs.Mend.{mendedOf}
+use Rattle.mend.specs.Table.{mendedBy}
+use Rattle.mend.proofs.OnlyOne.{index-lt}
+use Rattle.mend.proofs.Entries.{by-letter}
 use Rattle.receiver.specs.declared.searching.Found.{Found}
 use Rattle.receiver.specs.Rule.{one}
-use Rattle.receiver.specs.Search.{ahead, Holds, Takes, which, letterAt}
+use Rattle.receiver.specs.Search.{ahead, Holds, Takes, which, restOf}
+use Rattle.receiver.proofs.Pairs.{syndrome-lt, offset-small}
 use Rattle.receiver.proofs.Onward.{noFrame, block-small, one-small, fail-a, fail-b, fail-c, fail-d, all-mended}
 
 -- what is none of the first three is the last
@@ -24,10 +34,55 @@ which-last a b c d (suc (suc (suc k))) n m o = refl
 
 -- what mending makes of block k of those in x and y
 abbrev pub outcomeAt : ℕ → ℕ → ℕ → Outcome
-outcomeAt x y k = mendedOf (which (x / 274877906944) (x / 4096 % 67108864) (y / 274877906944) (y / 4096 % 67108864) k) (letterAt k)
+outcomeAt x y k = mendedOf (which (x / 274877906944) (x / 4096 % 67108864) (y / 274877906944) (y / 4096 % 67108864) k) (which A B C D k)
 
-pub asked : (x y k m : ℕ) (l : Letter) (o : Outcome) → o ≡ mendedOf m l → m ≡ which (x / 274877906944) (x / 4096 % 67108864) (y / 274877906944) (y / 4096 % 67108864) k → l ≡ letterAt k → o ≡ outcomeAt x y k
-asked x y k m l o e f g = e ∙ ap₂ mendedOf f g
+-- two rests side by side, and each again
+pub side-by-side : (s t o p : ℕ) → s < 1024 → t < 1024 → o < 1024 → p < 1024 → (s * 67108864 + t) ⊕ (o * 67108864 + p) ≡ (s ⊕ o) * 67108864 + (t ⊕ p)
+side-by-side s t o p hs ht ho hp =
+    sym (split ((s * 2 ^ 26 + t) ⊕ (o * 2 ^ 26 + p)) 26)
+    ∙ ap₂ (λ (x y : ℕ). x * 2 ^ 26 + y)
+    (xor-shr (s * 2 ^ 26 + t) (o * 2 ^ 26 + p) 26 ∙ ap₂ (λ (x y : ℕ). x ⊕ y) (top s t ht) (top o p hp))
+    (xor-mod (s * 2 ^ 26 + t) (o * 2 ^ 26 + p) 26 ∙ ap₂ (λ (x y : ℕ). x ⊕ y) (bottom s t ht) (bottom o p hp))
+  where
+    top : (s t : ℕ) → t < 1024 → (s * 2 ^ 26 + t) / 2 ^ 26 ≡ s
+    top s t h = omega arith
+
+    bottom : (s t : ℕ) → t < 1024 → (s * 2 ^ 26 + t) % 2 ^ 26 ≡ t
+    bottom s t h = omega arith
+
+pub both-rests : (x : ℕ) (first second : Letter) (r e : ℕ) → x < 2 ^ 64
+    → r ≡ syndrome (x / 4096 / 67108864) * 67108864 + syndrome (x / 4096 % 67108864) → e ≡ offsetOf first * 67108864 + offsetOf second
+    → r ⊕ e ≡ restOf (x / 274877906944) first * 67108864 + restOf (x / 4096 % 67108864) second
+both-rests x first second r e h er ee =
+    let same : x / 4096 / 67108864 ≡ x / 274877906944 = omega arith in
+    ap₂ (λ (m n : ℕ). m ⊕ n) er ee
+    ∙ side-by-side (syndrome (x / 4096 / 67108864)) (syndrome (x / 4096 % 67108864)) (offsetOf first) (offsetOf second) (syndrome-lt (x / 4096 / 67108864)) (syndrome-lt (x / 4096 % 67108864))
+    (offset-small first) (offset-small second)
+    ∙ ap (λ (n : ℕ). restOf n first * 67108864 + restOf (x / 4096 % 67108864) second) same
+
+pub wide : (b : List ℕ) (from x : ℕ) → x ≡ at (bits b) from 64 → x < 2 ^ 64
+wide b from x e = subst (λ (z : ℕ). z < 2 ^ 64) (sym e) (at-small b from 64 64 (omega arith))
+
+one-of : (p a b : ℕ) → p ≡ a * 67108864 + b → a < 1024 → b < 1024 → (p / 67108864 % 1024 ≡ a) × (p % 1024 ≡ b)
+one-of p a b e ha hb = (omega arith, omega arith)
+
+-- asked by its rest, a block is that of its letter
+by-rest : (m s : ℕ) (l : Letter) → m < 67108864 → s ≡ restOf m l → mendedBy m s ≡ mendedOf m l
+by-rest m s l h e = ap (mendedBy m) e ∙ by-letter m l h
+
+pub asked : (x y p q : ℕ) → x < 2 ^ 64 → y < 2 ^ 64
+    → p ≡ restOf (x / 274877906944) A * 67108864 + restOf (x / 4096 % 67108864) B → q ≡ restOf (y / 274877906944) C * 67108864 + restOf (y / 4096 % 67108864) D
+    → (k m s : ℕ) (o : Outcome) → o ≡ mendedBy m s → m ≡ which (x / 274877906944) (x / 4096 % 67108864) (y / 274877906944) (y / 4096 % 67108864) k
+    → s ≡ which (p / 67108864 % 1024) (p % 1024) (q / 67108864 % 1024) (q % 1024) k → o ≡ outcomeAt x y k
+unfolding which
+asked x y p q hx hy ep eq zero m s o e f g =
+    e ∙ ap₂ mendedBy f g ∙ by-rest (x / 274877906944) _ A (omega arith) (one-of p _ _ ep (index-lt (x / 274877906944) A) (index-lt (x / 4096 % 67108864) B) .0)
+asked x y p q hx hy ep eq (suc zero) m s o e f g =
+    e ∙ ap₂ mendedBy f g ∙ by-rest (x / 4096 % 67108864) _ B (omega arith) (one-of p _ _ ep (index-lt (x / 274877906944) A) (index-lt (x / 4096 % 67108864) B) .1)
+asked x y p q hx hy ep eq (suc (suc zero)) m s o e f g =
+    e ∙ ap₂ mendedBy f g ∙ by-rest (y / 274877906944) _ C (omega arith) (one-of q _ _ eq (index-lt (y / 274877906944) C) (index-lt (y / 4096 % 67108864) D) .0)
+asked x y p q hx hy ep eq (suc (suc (suc k))) m s o e f g =
+    e ∙ ap₂ mendedBy f g ∙ by-rest (y / 4096 % 67108864) _ D (omega arith) (one-of q _ _ eq (index-lt (y / 274877906944) C) (index-lt (y / 4096 % 67108864) D) .1)
 
 -- the information of the first k, and how many of them were mended
 unfoldable pub wordsOf : ℕ → ℕ → ℕ → ℕ

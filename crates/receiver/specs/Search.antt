@@ -6,9 +6,10 @@ use Prim.Native.Nat.{ℕ, zero, suc, _+_, _*_, _/_, _%_, _-_, _^_, _≤_, _<_}
 use lib.Count.{leadingZeros}
 use lib.ListN.{length, take, drop}
 use Rattle.laws.specs.Bits.{at, bits, bitsOf, bytes}
-use Rattle.block.specs.Block.{isValid}
+use Rattle.laws.specs.Poly.{_⊕_}
+use Rattle.block.specs.Block.{offsetOf, syndrome, isValid}
 use Rattle.block.specs.declared.Letter.{Letter}
-use Rattle.block.specs.declared.Letter.the-variants.{A, B, C, D}
+use Rattle.block.specs.declared.Letter.the-variants.{A}
 use Rattle.receiver.specs.declared.searching.Found.{Found}
 use Rattle.receiver.specs.declared.searching.Read.{Read}
 use Rattle.receiver.specs.Rule.{Heard, isTaken, takenBytes, takenCount, heard}
@@ -46,9 +47,9 @@ which a b c d (suc zero) = b
 which a b c d (suc (suc zero)) = c
 which a b c d (suc (suc (suc k))) = d
 
--- the letter of a frame's block k
-abbrev pub letterAt : ℕ → Letter
-letterAt k = which A B C D k
+-- what bits leave on division less the letter's offset word
+abbrev pub restOf : ℕ → Letter → ℕ
+restOf bits letter = syndrome bits ⊕ offsetOf letter
 
 -- a frame is handed out from a start that follows or does not, with its information as one number and the count of its mended blocks; or none is
 pub record Takes (follows : Bool) (l : List ℕ) (r : Found) : Type 0 where

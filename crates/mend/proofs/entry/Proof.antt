@@ -1,3 +1,4 @@
+-- `mend::entry` meets its contract: the one of four. Assumes nothing.
 use Rattle.mend.proofs.Entries.{looked-up}
 use borrow.Author.Needs.{needs}
 use Rattle.mend.proofs.entry.Statement.{statement}

@@ -1,3 +1,4 @@
+-- `receiver::searching::block_at` meets its contract, an arm a block. Assumes nothing.
 use mathlib.Core.Path.{sym, ap}
 use Prim.Native.Nat.{_/_, _%_}
 use Rattle.receiver.specs.Search.{which}
