@@ -1,12 +1,6 @@
-/* The same steps as ours, in C: pending bits and delivery in one buffer, the blocks at a place asked two at once and, right behind a frame, mended one by
-   one, else 39 places asked at once; check bits by long division. */
+/* The same steps as ours, in C: pending bits and delivery in one buffer, the blocks at a place divided two at once, and asked or, right behind a frame,
+   mended by what they leave, else 39 places asked at once; check bits by long division. */
 #include "plain.h"
-
-static unsigned remainder_of(uint32_t p)
-{
-    uint32_t h = p >> 2, u = h ^ h >> 1, a = u ^ u >> 2 ^ h >> 4, q = p ^ a ^ a >> 9, w = q ^ q << 1;
-    return (q ^ w << 3 ^ q << 5 ^ w << 7) & 0x3FF;
-}
 
 /* What two blocks side by side leave on division, each in the low ten bits of its 26. */
 static uint64_t remainders(uint64_t blocks)
@@ -97,22 +91,27 @@ static int frame_at(const uint8_t *b, size_t from, uint32_t *blocks)
     return 1;
 }
 
+/* How many of two blocks were mended, by what both leave less the offset words; 5 where one can't be. */
+static unsigned both_mended(uint64_t x, unsigned first, unsigned second, uint32_t *blocks)
+{
+    uint64_t rests = remainders(x >> 12) ^ ((uint64_t)first << 26 | second);
+    uint32_t left = (uint32_t)(rests >> 26), right = (uint32_t)rests & 0x3FF;
+    if ((left != 0 && table_change[left] == 0) || (right != 0 && table_change[right] == 0))
+        return 5;
+    blocks_of(x, blocks);
+    blocks[0] ^= table_change[left];
+    blocks[1] ^= table_change[right];
+    return (left != 0) + (right != 0);
+}
+
 /* How many of the four blocks at a place were mended; 5 where one can't be. */
 static unsigned mended_at(const uint8_t *b, size_t from, uint32_t *blocks)
 {
-    unsigned changed = 0;
-    blocks_of(window(b, from), blocks);
-    blocks_of(window(b, from + 52), blocks + 2);
-    for (int k = 0; k < 4; k++) {
-        unsigned rest = remainder_of(blocks[k] >> 10) ^ offset_of[k] ^ (blocks[k] & 0x3FF);
-        if (rest == 0)
-            continue;
-        if (table_change[rest] == 0)
-            return 5;
-        blocks[k] ^= table_change[rest];
-        changed++;
-    }
-    return changed;
+    unsigned first = both_mended(window(b, from), offset_of[0], offset_of[1], blocks);
+    if (first == 5)
+        return 5;
+    unsigned second = both_mended(window(b, from + 52), offset_of[2], offset_of[3], blocks + 2);
+    return second == 5 ? 5 : first + second;
 }
 
 int same_receive(struct plain_receiver *r, const uint8_t *delivery, size_t n, uint8_t *out, size_t room, uint8_t *counts, size_t room_for_counts)

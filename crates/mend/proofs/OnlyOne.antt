@@ -11,13 +11,12 @@ use lib.Bits.{xor-comm, xor-lt, xor-self, xor-zero-r}
 use Rattle.laws.specs.Poly.{_⊕_}
 use Rattle.laws.proofs.Cases.{and-both, and-left}
 use Rattle.laws.proofs.Elements.{by-test}
-use Rattle.laws.proofs.Xor.{xor-assoc, xor-undo, xor-eq}
+use Rattle.laws.proofs.Xor.{xor-assoc, xor-undo}
 use Rattle.block.specs.declared.Letter.{Letter}
 use Rattle.block.specs.Block.{offsetOf, syndrome, checkWord, carries, isValid}
 use Rattle.block.proofs.Validity.{syndrome-xor, syndrome-block, valid-remainder, remainder-valid, check-word-small}
 use Rattle.mend.specs.Mend.{near, fits, nothing, mendedOf}
-use Rattle.mend.specs.Table.{none, Corrects}
-use Rattle.mend.proofs.Patterns.{changeAt}
+use Rattle.mend.specs.Table.{none, changeFor, Corrects}
 use Rattle.mend.proofs.Rule.{table-corrects}
 use Rattle.mend.proofs.Near.{narrow-lt, near-narrow, narrow-near, near-lt}
 use Rattle.mend.proofs.Search.{used, sought-none, sought-one}
@@ -86,7 +85,7 @@ module _ (bits : ℕ) (letter : Letter) (p : ℕ) (e : Corrects (indexOf bits le
       big : (x : ℕ) → x < 2 ^ 26 → x ≡ none → ⊥
       big x l q = omega arith
 
-  entry-fits : bits < 2 ^ 26 → (p ≡ none → ⊥) → fits bits letter (bits ⊕ p) ≡ true
+  pub entry-fits : bits < 2 ^ 26 → (p ≡ none → ⊥) → fits bits letter (bits ⊕ p) ≡ true
   unfolding fits
   entry-fits h n =
       let r = e .right n in
@@ -117,14 +116,15 @@ module _ (bits : ℕ) (letter : Letter) (p : ℕ) (e : Corrects (indexOf bits le
           (ne-eqb (bits ⊕ p) bits
           (λ q. absurd (true≢false (sym (eq-eqb p 0 (sym (xor-undo bits p) ∙ ap (λ (x : ℕ). bits ⊕ x) q ∙ xor-self bits)) ∙ y)))))
 
-entry : (bits : ℕ) (letter : Letter) → Corrects (indexOf bits letter) (changeAt (indexOf bits letter))
-entry bits letter = table-corrects (indexOf bits letter) (index-lt bits letter)
+-- the table's change is right there
+pub change-right : (bits : ℕ) (letter : Letter) → Corrects (indexOf bits letter) (changeFor (indexOf bits letter))
+change-right bits letter = table-corrects (indexOf bits letter) (index-lt bits letter)
 
 -- At most one valid block of a letter differs from given bits only within five neighbouring bits.
 pub only-one : (bits : ℕ) (letter : Letter) (c d : ℕ) → fits bits letter c ≡ true → fits bits letter d ≡ true → c ≡ d
 only-one bits letter c d t u =
-    entry-only bits letter (changeAt (indexOf bits letter)) (entry bits letter) c t
-    ∙ sym (entry-only bits letter (changeAt (indexOf bits letter)) (entry bits letter) d u)
+    entry-only bits letter (changeFor (indexOf bits letter)) (change-right bits letter) c t
+    ∙ sym (entry-only bits letter (changeFor (indexOf bits letter)) (change-right bits letter) d u)
 
 -- If there is one, it is given, and marked as changed just where it is another number than the bits.
 pub given-one : (bits : ℕ) (letter : Letter) (c : ℕ) → fits bits letter c ≡ true → mendedOf bits letter ≡ used bits c
@@ -144,7 +144,3 @@ whole-stays bits letter t =
     given-one bits letter bits
     (ap₂ _&&_ t (ap (λ (x : ℕ). near 22 x bits) (sym (xor-zero-r bits)) ∙ narrow-near bits 0 (record { pattern = 0; place = 0; short = omega arith; inside = omega arith; is = refl })))
     ∙ ap (λ (x : Bool). record { found = true; changed = not x; block = bits }) (eq-eqb bits bits refl)
-
--- whose index is 0
-pub index-whole : (bits : ℕ) (letter : Letter) → bits < 2 ^ 26 → indexOf bits letter ≡ 0 → record { found = true; changed = false; block = bits } ≡ mendedOf bits letter
-index-whole bits letter h e = sym (whole-stays bits letter (remainder-valid bits letter h (xor-eq (syndrome bits) (offsetOf letter) e)))

@@ -45,7 +45,7 @@ pub linear-mask : (m : ℕ) (f : ℕ → ℕ) → Linear f → Linear (λ p. bit
 linear-mask m f lf = linear-then f (λ x. bitAnd x m) lf (λ a b. mask-sum a b m)
 
 -- ---- both remainders
-syndrome-lt : (p : ℕ) → syndrome p < 2 ^ 10
+pub syndrome-lt : (p : ℕ) → syndrome p < 2 ^ 10
 unfolding syndrome
 syndrome-lt p = remainder-lt 10 generator refl 26 p
 
@@ -66,7 +66,7 @@ linear-both =
     (linear-then (λ p. p % 2 ^ 26) syndrome (linear-low 26) syndrome-xor)
 
 -- ---- two letters
-offset-small : (letter : Letter) → offsetOf letter < 2 ^ 10
+pub offset-small : (letter : Letter) → offsetOf letter < 2 ^ 10
 offset-small A = omega arith
 offset-small B = omega arith
 offset-small C = omega arith

@@ -2,11 +2,13 @@
 use mathlib.Core.Path.{_≡_}
 use mathlib.Core.Bool.{Bool, true, false}
 use mathlib.Core.List.{List}
-use Prim.Native.Nat.{ℕ, _+_, _*_, _/_, _%_, _-_, _^_, _≤_, _<_}
+use Prim.Native.Nat.{ℕ, zero, suc, _+_, _*_, _/_, _%_, _-_, _^_, _≤_, _<_}
 use lib.Count.{leadingZeros}
 use lib.ListN.{length, take, drop}
 use Rattle.laws.specs.Bits.{at, bits, bitsOf, bytes}
-use Rattle.block.specs.Block.{isValid}
+use Rattle.laws.specs.Poly.{_⊕_}
+use Rattle.block.specs.Block.{offsetOf, syndrome, isValid}
+use Rattle.block.specs.declared.Letter.{Letter}
 use Rattle.block.specs.declared.Letter.the-variants.{A}
 use Rattle.receiver.specs.declared.searching.Found.{Found}
 use Rattle.receiver.specs.declared.searching.Read.{Read}
@@ -37,6 +39,17 @@ pub record ClearUpTo (l : List ℕ) (from m : ℕ) : Type 0 where
   pub least : 25 ≤ leadingZeros 64 m
   pub most : leadingZeros 64 m ≤ 64
   pub none : NoneOf l from (leadingZeros 64 m - 25)
+
+-- of four, that of number k, or the last
+unfoldable pub which : {X : Type 0} → X → X → X → X → ℕ → X
+which a b c d zero = a
+which a b c d (suc zero) = b
+which a b c d (suc (suc zero)) = c
+which a b c d (suc (suc (suc k))) = d
+
+-- what bits leave on division less the letter's offset word
+abbrev pub restOf : ℕ → Letter → ℕ
+restOf bits letter = syndrome bits ⊕ offsetOf letter
 
 -- a frame is handed out from a start that follows or does not, with its information as one number and the count of its mended blocks; or none is
 pub record Takes (follows : Bool) (l : List ℕ) (r : Found) : Type 0 where

@@ -8,10 +8,10 @@ ghost use mathlib.Core.Bool.{true, false, _&&_};
 ghost use Prim.Native.Nat.{_+_, _*_, _/_, _%_, _^_, _≤_, _<_};
 ghost use lib.ListN.{length};
 ghost use lib.Seq.{sets};
-ghost use Rattle.block.specs.Block.{syndrome, isValid};
+ghost use Rattle.block.specs.Block.{offsetOf, syndrome, isValid};
 ghost use Rattle.receiver.specs.Rule as rule;
 ghost use Rattle.receiver.specs.Receive.{joined};
-ghost use Rattle.receiver.specs.Search.{ahead, heardFrom, Holds, Takes, Searched};
+ghost use Rattle.receiver.specs.Search.{ahead, heardFrom, Holds, Takes, Searched, which, restOf};
 
 // Whether a frame stands at a place, its information, and how many of its blocks were mended.
 pub(crate) struct Found {
@@ -43,12 +43,25 @@ fn remainders(blocks: u64) -> u64
     ((r >> 10) ^ blocks) & 0xF_FC00_03FF
 }
 
+// What the blocks of two letters leave, side by side.
+fn expected(first: Letter, second: Letter) -> u64
+    ensures { λ r. ⌜ r ≡ offsetOf first * 67108864 + offsetOf second ⌝ }
+{
+    block::offset_of(first) as u64 * 0x400_0000 + block::offset_of(second) as u64
+}
+
 // Whether the first 52 of 64 bits are the blocks of two letters.
 fn both_pass(x: u64, first: Letter, second: Letter) -> bool
     ensures { λ r. ⌜ r ≡ (isValid (x / 274877906944) first && isValid (x / 4096 % 67108864) second) ⌝ }
 {
-    let expected = block::offset_of(first) as u64 * 0x400_0000 + block::offset_of(second) as u64;
-    remainders(x >> 12) == expected
+    remainders(x >> 12) == expected(first, second)
+}
+
+// What they leave less the offset words of two letters.
+fn rests(x: u64, first: Letter, second: Letter) -> u64
+    ensures { λ r. ⌜ r ≡ restOf (x / 274877906944) first * 67108864 + restOf (x / 4096 % 67108864) second ⌝ }
+{
+    remainders(x >> 12) ^ expected(first, second)
 }
 
 // The information of four blocks as one number.
@@ -101,33 +114,55 @@ pub(crate) fn one(b: bool) -> u8
     if b { 1 } else { 0 }
 }
 
-// Mends the four blocks at a place.
+// Block k of two and two, each two in the first 52 of 64 bits.
+fn block_at(x: u64, y: u64, k: usize) -> u32
+    ensures { λ r. ⌜ r ≡ which (x / 274877906944) (x / 4096 % 67108864) (y / 274877906944) (y / 4096 % 67108864) k ⌝ }
+{
+    match k {
+        0 => (x >> 38) as u32,
+        1 => ((x >> 12) % 0x400_0000) as u32,
+        2 => (y >> 38) as u32,
+        _ => ((y >> 12) % 0x400_0000) as u32,
+    }
+}
+
+// What is left of block k less its offset word, of two and two as `rests` has them.
+fn rest_at(p: u64, q: u64, k: usize) -> u16
+    ensures { λ r. ⌜ r ≡ which (p / 67108864 % 1024) (p % 1024) (q / 67108864 % 1024) (q % 1024) k ⌝ }
+{
+    match k {
+        0 => (p / 0x400_0000 % 1024) as u16,
+        1 => (p % 1024) as u16,
+        2 => (q / 0x400_0000 % 1024) as u16,
+        _ => (q % 1024) as u16,
+    }
+}
+
+// Mends the four blocks at a place, in a loop: so the table is asked at one place of the code, and stands in it where it is asked.
 fn mended_at(b: &[u8], end: usize, from: usize) -> Found
     requires { ⌜ Holds (now b) end × (from + 104 ≤ end) ⌝ }
     ensures { λ r. ⌜ Takes true (ahead (now (b .entry)) end from) r ⌝ }
 {
     let x = window(b, from);
-    let a = mend::mended((x >> 38) as u32, Letter::A);
-    if !a.found {
-        return no_frame();
-    }
-    let p = mend::mended(((x >> 12) % 0x400_0000) as u32, Letter::B);
-    if !p.found {
-        return no_frame();
-    }
     let y = window(b, from + 52);
-    let q = mend::mended((y >> 38) as u32, Letter::C);
-    if !q.found {
-        return no_frame();
-    }
-    let d = mend::mended(((y >> 12) % 0x400_0000) as u32, Letter::D);
-    if !d.found {
-        return no_frame();
+    let p = rests(x, Letter::A, Letter::B);
+    let q = rests(y, Letter::C, Letter::D);
+    let mut words: u64 = 0;
+    let mut changed: u8 = 0;
+    let mut k: usize = 0;
+    while k < 4 {
+        let outcome = mend::mended_by(block_at(x, y, k), rest_at(p, q, k));
+        if !outcome.found {
+            return no_frame();
+        }
+        words = (words << 16) + (outcome.block / 1024) as u64;
+        changed += one(outcome.changed);
+        k += 1;
     }
     Found {
         frame: true,
-        words: words_of(a.block, p.block, q.block, d.block),
-        mended: one(a.changed) + one(p.changed) + one(q.changed) + one(d.changed),
+        words,
+        mended: changed,
     }
 }
 

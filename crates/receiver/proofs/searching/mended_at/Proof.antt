@@ -1,139 +1,117 @@
-use mathlib.Core.Path.{refl}
+-- `receiver::searching::mended_at` meets its contract: each turn mends one block more. Assumes nothing.
+use mathlib.Core.Path.{_≡_}
+use Prim.Native.Nat.{_-_}
 use native.Mathlib.Omega.{arith}
 use borrow.Author.Tests.{not-true, not-false}
-use Rattle.receiver.proofs.Onward.{block-small, one-small, fail-a, fail-b, fail-c, fail-d, all-mended}
+use Rattle.receiver.proofs.Onward.{block-small, one-small}
+use Rattle.receiver.proofs.Blocks.{Mends, outcomeAt, wide, asked, count-few, none-yet, room, one-more, fail-at, done}
 use borrow.Author.Needs.{needs}
 use Rattle.receiver.proofs.searching.mended_at.Statement.{statement}
 use Rattle.receiver.proofs.searching.mended_at.Tie as tie
 
-window-requires : tie.Need-window-requires
+abbrev Inv-loop : tie.InvT-loop
+Inv-loop b end from x y p q words₀ changed₀ k₀ words changed k = Mends x y k words changed
+
+abbrev μ-loop : tie.MeasureT-loop
+μ-loop b end from x y p q words₀ changed₀ k₀ words changed k = 4 - k
+
+window-requires : tie.Need-window-requires Inv-loop μ-loop
 window-requires c κs = search needs
 
-cast-mended : tie.Need-cast-mended
-cast-mended c = search needs
-
-mended-requires : tie.Need-mended-requires
-mended-requires c κs = search needs
-
-no-frame-requires : tie.Need-no-frame-requires
-no-frame-requires c κs = search needs
-
-returns : tie.Need-returns
-returns c =
-    let a = c .before .before .before .before .before .before .args in
-    fail-a (a .b .now) (a .end) (a .from) (c .before .before .before .before .window .result) _ (c .before .before .before .before .before .before .pre .0) (c .before .before .before .before .before .before .pre .1) (c .before .before .before .before .window .ensures) refl (c .before .before .before .mended .result) (c .before .before .before .mended .ensures) (not-true _ (c .before .if1 .taken)) _ (c .no-frame .ensures)
-
-cast-mended-2 : tie.Need-cast-mended-2
-cast-mended-2 c = search needs
-
-mended-requires-2 : tie.Need-mended-requires-2
-mended-requires-2 c κs = search needs
-
-no-frame-requires-2 : tie.Need-no-frame-requires-2
-no-frame-requires-2 c κs = search needs
-
-returns-2 : tie.Need-returns-2
-returns-2 c =
-    let a = c .before .before .before .before .before .before .before .before .before .args in
-    fail-b (a .b .now) (a .end) (a .from) (c .before .before .before .before .before .before .before .window .result) _ (c .before .before .before .before .before .before .before .before .before .pre .0) (c .before .before .before .before .before .before .before .before .before .pre .1) (c .before .before .before .before .before .before .before .window .ensures) refl (c .before .before .before .before .before .before .mended .result) (c .before .before .before .before .before .before .mended .ensures) (not-false _ (c .before .before .before .before .if1 .left)) (c .before .before .before .mended2 .result) (c .before .before .before .mended2 .ensures) (not-true _ (c .before .if2 .taken)) _ (c .no-frame2 .ensures)
-
-add-window : tie.Need-add-window
+add-window : tie.Need-add-window Inv-loop μ-loop
 add-window c = search needs
 
-window-requires-2 : tie.Need-window-requires-2
+window-requires-2 : tie.Need-window-requires-2 Inv-loop μ-loop
 window-requires-2 c κs = search needs
 
-cast-mended-3 : tie.Need-cast-mended-3
-cast-mended-3 c = search needs
+rests-requires : tie.Need-rests-requires Inv-loop μ-loop
+rests-requires c κs = search needs
 
-mended-requires-3 : tie.Need-mended-requires-3
-mended-requires-3 c κs = search needs
+rests-requires-2 : tie.Need-rests-requires-2 Inv-loop μ-loop
+rests-requires-2 c κs = search needs
 
-no-frame-requires-3 : tie.Need-no-frame-requires-3
-no-frame-requires-3 c κs = search needs
+loop-holds : tie.Need-loop-holds Inv-loop μ-loop
+loop-holds c = none-yet _ _
 
-returns-3 : tie.Need-returns-3
-returns-3 c =
+block-at-requires : tie.Need-block-at-requires Inv-loop μ-loop
+block-at-requires c κs = search needs
+
+rest-at-requires : tie.Need-rest-at-requires Inv-loop μ-loop
+rest-at-requires c κs = search needs
+
+mended-by-requires : tie.Need-mended-by-requires Inv-loop μ-loop
+mended-by-requires c κs = search needs
+
+no-frame-requires : tie.Need-no-frame-requires Inv-loop μ-loop
+no-frame-requires c κs = search needs
+
+returns : tie.Need-returns Inv-loop μ-loop
+returns c =
     let a = c .before .before .before .before .before .before .before .before .before .before .before .before .before .args in
-    fail-c (a .b .now) (a .end) (a .from) (c .before .before .before .before .before .before .before .before .before .before .before .window .result) (c .before .before .before .before .window2 .result) (c .before .before .before .before .before .before .before .before .before .before .before .before .before .pre .0) (c .before .before .before .before .before .before .before .before .before .before .before .before .before .pre .1) (c .before .before .before .before .before .before .before .before .before .before .before .window .ensures) (c .before .before .before .before .window2 .ensures) (c .before .before .before .before .before .before .before .before .before .before .mended .result) (c .before .before .before .before .before .before .before .before .before .before .mended .ensures) (not-false _ (c .before .before .before .before .before .before .before .before .if1 .left)) (c .before .before .before .before .before .before .before .mended2 .result) (c .before .before .before .before .before .before .before .mended2 .ensures) (not-false _ (c .before .before .before .before .before .if2 .left)) (c .before .before .before .mended3 .result) (c .before .before .before .mended3 .ensures) (not-true _ (c .before .if3 .taken)) _ (c .no-frame3 .ensures)
+    let x = c .before .before .before .before .before .before .before .before .before .before .before .window .result in
+    let y = c .before .before .before .before .before .before .before .before .before .before .window2 .result in
+    let o : c .before .before .before .mended-by .result ≡ outcomeAt x y (c .before .before .before .before .before .before .before .loop .k) = asked x y (c .before .before .before .before .before .before .before .before .before .rests .result) (c .before .before .before .before .before .before .before .before .rests2 .result) (wide (a .b .now) _ x (c .before .before .before .before .before .before .before .before .before .before .before .window .ensures)) (wide (a .b .now) _ y (c .before .before .before .before .before .before .before .before .before .before .window2 .ensures)) (c .before .before .before .before .before .before .before .before .before .rests .ensures) (c .before .before .before .before .before .before .before .before .rests2 .ensures) (c .before .before .before .before .before .before .before .loop .k) _ _ (c .before .before .before .mended-by .result) (c .before .before .before .mended-by .ensures) (c .before .before .before .before .before .block-at .ensures) (c .before .before .before .before .rest-at .ensures) in
+    fail-at (a .b .now) (a .end) (a .from) x y (c .before .before .before .before .before .before .before .before .before .before .before .before .before .pre .0) (c .before .before .before .before .before .before .before .before .before .before .before .before .before .pre .1) (c .before .before .before .before .before .before .before .before .before .before .before .window .ensures) (c .before .before .before .before .before .before .before .before .before .before .window2 .ensures) _ (c .before .before .before .before .before .before .loop-test .taken) (c .before .before .before .before .before .before .before .loop .inv .found) (c .before .before .before .mended-by .result) o (not-true _ (c .before .if1 .taken)) _ (c .no-frame .ensures)
 
-cast-mended-4 : tie.Need-cast-mended-4
-cast-mended-4 c = search needs
+cast-words : tie.Need-cast-words Inv-loop μ-loop
+cast-words c = search needs
 
-mended-requires-4 : tie.Need-mended-requires-4
-mended-requires-4 c κs = search needs
+add-words : tie.Need-add-words Inv-loop μ-loop
+add-words c =
+    let a = c .before .before .before .before .before .before .before .before .before .before .before .before .before .args in
+    let x = c .before .before .before .before .before .before .before .before .before .before .before .window .result in
+    let y = c .before .before .before .before .before .before .before .before .before .before .window2 .result in
+    let o : c .before .before .before .mended-by .result ≡ outcomeAt x y (c .before .before .before .before .before .before .before .loop .k) = asked x y (c .before .before .before .before .before .before .before .before .before .rests .result) (c .before .before .before .before .before .before .before .before .rests2 .result) (wide (a .b .now) _ x (c .before .before .before .before .before .before .before .before .before .before .before .window .ensures)) (wide (a .b .now) _ y (c .before .before .before .before .before .before .before .before .before .before .window2 .ensures)) (c .before .before .before .before .before .before .before .before .before .rests .ensures) (c .before .before .before .before .before .before .before .before .rests2 .ensures) (c .before .before .before .before .before .before .before .loop .k) _ _ (c .before .before .before .mended-by .result) (c .before .before .before .mended-by .ensures) (c .before .before .before .before .before .block-at .ensures) (c .before .before .before .before .rest-at .ensures) in
+    let l = room (c .before .before .before .before .before .before .before .loop .words) (c .before .before .before .mended-by .result .block) (block-small _ _ _ o (not-false _ (c .before .if1 .left))) in
+    omega arith
 
-no-frame-requires-4 : tie.Need-no-frame-requires-4
-no-frame-requires-4 c κs = search needs
-
-returns-4 : tie.Need-returns-4
-returns-4 c =
-    let a = c .before .before .before .before .before .before .before .before .before .before .before .before .before .before .before .before .args in
-    fail-d (a .b .now) (a .end) (a .from) (c .before .before .before .before .before .before .before .before .before .before .before .before .before .before .window .result) (c .before .before .before .before .before .before .before .window2 .result) (c .before .before .before .before .before .before .before .before .before .before .before .before .before .before .before .before .pre .0) (c .before .before .before .before .before .before .before .before .before .before .before .before .before .before .before .before .pre .1) (c .before .before .before .before .before .before .before .before .before .before .before .before .before .before .window .ensures) (c .before .before .before .before .before .before .before .window2 .ensures) (c .before .before .before .before .before .before .before .before .before .before .before .before .before .mended .result) (c .before .before .before .before .before .before .before .before .before .before .before .before .before .mended .ensures) (not-false _ (c .before .before .before .before .before .before .before .before .before .before .before .if1 .left)) (c .before .before .before .before .before .before .before .before .before .before .mended2 .result) (c .before .before .before .before .before .before .before .before .before .before .mended2 .ensures) (not-false _ (c .before .before .before .before .before .before .before .before .if2 .left)) (c .before .before .before .before .before .before .mended3 .result) (c .before .before .before .before .before .before .mended3 .ensures) (not-false _ (c .before .before .before .before .if3 .left)) (c .before .before .before .mended4 .result) (c .before .before .before .mended4 .ensures) (not-true _ (c .before .if4 .taken)) _ (c .no-frame4 .ensures)
-
-words-of-requires : tie.Need-words-of-requires
-words-of-requires c κs =
-    (block-small _ _ _ (c .before .before .before .before .before .before .before .before .before .before .before .before .mended .ensures) (not-false _ (c .before .before .before .before .before .before .before .before .before .before .if1 .left)), block-small _ _ _ (c .before .before .before .before .before .before .before .before .before .mended2 .ensures) (not-false _ (c .before .before .before .before .before .before .before .if2 .left)), block-small _ _ _ (c .before .before .before .before .before .mended3 .ensures) (not-false _ (c .before .before .before .if3 .left)), block-small _ _ _ (c .before .before .mended4 .ensures) (not-false _ (c .if4 .left)))
-
-one-requires : tie.Need-one-requires
+one-requires : tie.Need-one-requires Inv-loop μ-loop
 one-requires c κs = search needs
 
-one-requires-2 : tie.Need-one-requires-2
-one-requires-2 c κs = search needs
+add-changed : tie.Need-add-changed Inv-loop μ-loop
+add-changed c = omega (arith, count-few (c .before .before .before .before .before .before .before .before .before .before .before .before .window .result) (c .before .before .before .before .before .before .before .before .before .before .before .window2 .result) (c .before .before .before .before .before .before .before .before .loop .k), c .before .before .before .before .before .before .before .before .loop .inv .count, c .before .before .before .before .before .before .before .loop-test .taken, one-small (c .one .result) (c .before .before .before .before .mended-by .result .changed) (c .one .ensures))
 
-add-t18 : tie.Need-add-t18
-add-t18 c = omega (arith, one-small (c .before .one .result) (c .before .before .before .before .before .before .before .before .before .before .before .before .before .before .before .mended .result .changed) (c .before .one .ensures), one-small (c .one2 .result) (c .before .before .before .before .before .before .before .before .before .before .before .before .mended2 .result .changed) (c .one2 .ensures))
+add-k : tie.Need-add-k Inv-loop μ-loop
+add-k c = search needs
 
-one-requires-3 : tie.Need-one-requires-3
-one-requires-3 c κs = search needs
+loop-less : tie.Need-loop-less Inv-loop μ-loop
+loop-less c = omega (arith, c .before .before .before .before .before .before .before .loop-test .taken)
 
-add-t20 : tie.Need-add-t20
-add-t20 c = omega (arith, one-small (c .before .before .one .result) (c .before .before .before .before .before .before .before .before .before .before .before .before .before .before .before .before .mended .result .changed) (c .before .before .one .ensures), one-small (c .before .one2 .result) (c .before .before .before .before .before .before .before .before .before .before .before .before .before .mended2 .result .changed) (c .before .one2 .ensures), one-small (c .one3 .result) (c .before .before .before .before .before .before .before .before .before .mended3 .result .changed) (c .one3 .ensures))
+loop-again : tie.Need-loop-again Inv-loop μ-loop
+loop-again c =
+    let a = c .before .before .before .before .before .before .before .before .before .before .before .before .before .before .args in
+    let x = c .before .before .before .before .before .before .before .before .before .before .before .before .window .result in
+    let y = c .before .before .before .before .before .before .before .before .before .before .before .window2 .result in
+    let o : c .before .before .before .before .mended-by .result ≡ outcomeAt x y (c .before .before .before .before .before .before .before .before .loop .k) = asked x y (c .before .before .before .before .before .before .before .before .before .before .rests .result) (c .before .before .before .before .before .before .before .before .before .rests2 .result) (wide (a .b .now) _ x (c .before .before .before .before .before .before .before .before .before .before .before .before .window .ensures)) (wide (a .b .now) _ y (c .before .before .before .before .before .before .before .before .before .before .before .window2 .ensures)) (c .before .before .before .before .before .before .before .before .before .before .rests .ensures) (c .before .before .before .before .before .before .before .before .before .rests2 .ensures) (c .before .before .before .before .before .before .before .before .loop .k) _ _ (c .before .before .before .before .mended-by .result) (c .before .before .before .before .mended-by .ensures) (c .before .before .before .before .before .before .block-at .ensures) (c .before .before .before .before .before .rest-at .ensures) in
+    one-more (c .before .before .before .before .before .before .before .before .loop .inv) (c .before .before .before .before .before .before .before .loop-test .taken) (c .before .before .before .before .mended-by .result) o (not-false _ (c .before .before .if1 .left)) _ (c .one .ensures)
 
-one-requires-4 : tie.Need-one-requires-4
-one-requires-4 c κs = search needs
-
-add-t22 : tie.Need-add-t22
-add-t22 c = omega (arith, one-small (c .before .before .before .one .result) (c .before .before .before .before .before .before .before .before .before .before .before .before .before .before .before .before .before .mended .result .changed) (c .before .before .before .one .ensures), one-small (c .before .before .one2 .result) (c .before .before .before .before .before .before .before .before .before .before .before .before .before .before .mended2 .result .changed) (c .before .before .one2 .ensures), one-small (c .before .one3 .result) (c .before .before .before .before .before .before .before .before .before .before .mended3 .result .changed) (c .before .one3 .ensures), one-small (c .one4 .result) (c .before .before .before .before .before .before .before .mended4 .result .changed) (c .one4 .ensures))
-
-returns-5 : tie.Need-returns-5
-returns-5 c =
-    let a = c .before .before .before .before .before .before .before .before .before .before .before .before .before .before .before .before .before .before .before .before .args in
-    let ka = c .before .before .before .one .ensures in
-    let kb = c .before .before .one2 .ensures in
-    let kc = c .before .one3 .ensures in
-    let kd = c .one4 .ensures in
-    all-mended (a .b .now) (a .end) (a .from) (c .before .before .before .before .before .before .before .before .before .before .before .before .before .before .before .before .before .before .window .result) (c .before .before .before .before .before .before .before .before .before .before .before .window2 .result) (c .before .before .before .before .before .before .before .before .before .before .before .before .before .before .before .before .before .before .before .before .pre .0) (c .before .before .before .before .before .before .before .before .before .before .before .before .before .before .before .before .before .before .before .before .pre .1) (c .before .before .before .before .before .before .before .before .before .before .before .before .before .before .before .before .before .before .window .ensures) (c .before .before .before .before .before .before .before .before .before .before .before .window2 .ensures) (c .before .before .before .before .before .before .before .before .before .before .before .before .before .before .before .before .before .mended .result) (c .before .before .before .before .before .before .before .before .before .before .before .before .before .before .before .before .before .mended .ensures) (not-false _ (c .before .before .before .before .before .before .before .before .before .before .before .before .before .before .before .if1 .left)) (c .before .before .before .before .before .before .before .before .before .before .before .before .before .before .mended2 .result) (c .before .before .before .before .before .before .before .before .before .before .before .before .before .before .mended2 .ensures) (not-false _ (c .before .before .before .before .before .before .before .before .before .before .before .before .if2 .left)) (c .before .before .before .before .before .before .before .before .before .before .mended3 .result) (c .before .before .before .before .before .before .before .before .before .before .mended3 .ensures) (not-false _ (c .before .before .before .before .before .before .before .before .if3 .left)) (c .before .before .before .before .before .before .before .mended4 .result) (c .before .before .before .before .before .before .before .mended4 .ensures) (not-false _ (c .before .before .before .before .before .if4 .left)) (c .before .before .before .before .words-of .result) _ (c .before .before .before .before .words-of .ensures) (omega (arith, ka, kb, kc, kd))
+returns-2 : tie.Need-returns-2 Inv-loop μ-loop
+returns-2 c =
+    let a = c .before .before .before .before .before .before .before .args in
+    done (a .b .now) (a .end) (a .from) (c .before .before .before .before .before .window .result) (c .before .before .before .before .window2 .result) (c .before .before .before .before .before .before .before .pre .0) (c .before .before .before .before .before .before .before .pre .1) (c .before .before .before .before .before .window .ensures) (c .before .before .before .before .window2 .ensures) (c .before .loop .inv) (c .loop-test .left)
 
 pub mended-at-spec : {M : Type 1} → statement M
 mended-at-spec =
     tie.close
     (tie.spec
+    Inv-loop
+    μ-loop
     window-requires
-    cast-mended
-    mended-requires
-    no-frame-requires
-    returns
-    cast-mended-2
-    mended-requires-2
-    no-frame-requires-2
-    returns-2
     add-window
     window-requires-2
-    cast-mended-3
-    mended-requires-3
-    no-frame-requires-3
-    returns-3
-    cast-mended-4
-    mended-requires-4
-    no-frame-requires-4
-    returns-4
-    words-of-requires
+    rests-requires
+    rests-requires-2
+    loop-holds
+    block-at-requires
+    rest-at-requires
+    mended-by-requires
+    no-frame-requires
+    returns
+    cast-words
+    add-words
     one-requires
-    one-requires-2
-    add-t18
-    one-requires-3
-    add-t20
-    one-requires-4
-    add-t22
-    returns-5)
+    add-changed
+    add-k
+    loop-less
+    loop-again
+    returns-2)
