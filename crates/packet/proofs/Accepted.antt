@@ -7,17 +7,18 @@ use native.Mathlib.Omega.{arith}
 use lib.ListN.{length}
 use lib.Dec.{leb, eqb}
 use borrow.Author.Tests.{leb-true, eqb-true, not-false}
-use Rattle.laws.specs.Bits.{bits}
+use Rattle.laws.specs.Bits.{at, bits}
 use Rattle.laws.specs.Refusals.{first}
 use Rattle.laws.proofs.Cases.{and-both, or-both}
 use Rattle.laws.proofs.Refusals.{not-due}
 use Rattle.format.specs.Format.{size, fine}
 use Rattle.packet.specs.declared.Kind.{Kind}
-use Rattle.packet.specs.declared.Kind.the-variants.{Frequencies, Address, Keep, Clock, Reset, Factory, Drill, Text, Hold, Raw, Unknown}
-use Rattle.packet.specs.Table.{kindOf, contentBytes, rowOf, countIn, contentLines}
+use Rattle.packet.specs.declared.Kind.the-variants.{Text}
+use Rattle.packet.specs.Table.{kindOf, contentBytes, rowOf, contentLines}
 use Rattle.packet.specs.Content.{noSuchDay}
 use Rattle.packet.specs.Reading.{typeIn, lengthIn, codesIn, kindIn, contentAt, contentSize, countOf, tableOf, valuesIn, partAt, contentIn, hasEntries, sizeBad, lengthBad, isUnknown, fieldBad, readAnswer, textAnswer}
 use Rattle.packet.proofs.Column.{column}
+use Rattle.packet.proofs.Bytes.{part-least}
 
 -- ---- what a right size says
 pub record Sized (b : List ℕ) : Type 0 where
@@ -116,24 +117,16 @@ text-there b e = go (readAnswer b) (eqb (typeIn b) 15) refl refl (sym (text-late
     go (suc a) t h k z = absurd (let w : suc a ≡ 0 = rw (h) at z in omega arith)
 
 -- ---- parts end inside the packet
-body-in : (f : Kind) (l : List ℕ) (q m : ℕ) → partAt (rowOf f) / 8 + cond (hasEntries f) 0 (countIn (rowOf f) l q m) ≤ contentBytes f (countIn (rowOf f) l q m)
-unfolding partAt size
-body-in Frequencies l q m = omega arith
-body-in Address l q m = omega arith
-body-in Keep l q m = omega arith
-body-in Clock l q m = omega arith
-body-in Reset l q m = omega arith
-body-in Factory l q m = omega arith
-body-in Drill l q m = omega arith
-body-in Text l q m = omega arith
-body-in Hold l q m = omega arith
-body-in Raw l q m = omega arith
-body-in Unknown l q m = omega arith
+at-most : (x : Bool) (k : ℕ) → cond x 0 k ≤ k
+at-most true k = omega arith
+at-most false k = omega arith
 
 -- the bytes of a content end before the time begins, 74 bytes before the end
 pub body-inside : (b : List ℕ) → Accepted b → 3 + 12 * codesIn b + partAt (rowOf (kindIn b)) / 8 + cond (hasEntries (kindIn b)) 0 (countOf b) + 74 ≤ length b
 unfolding countOf
-body-inside b z = omega (arith, body-in (kindIn b) (bits b) (contentAt b) (contentSize b), z .bytes, z .least)
+body-inside b z =
+    let r = rowOf (kindIn b) in
+    omega (arith, part-least (kindIn b) (at (bits b) (contentAt b + size (r .before)) 8) (contentSize b), at-most (hasEntries (kindIn b)) (countOf b), z .bytes, z .least)
 
 -- a text begins 20 bytes into the content
 pub text-from : (b : List ℕ) → typeIn b ≡ 15 → (3 + 12 * codesIn b + partAt (rowOf (kindIn b)) / 8 ≡ 23 + 12 * codesIn b) × (cond (hasEntries (kindIn b)) 0 (countOf b) ≡ countOf b)

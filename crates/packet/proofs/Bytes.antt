@@ -30,9 +30,13 @@ least-by counting.Counted e k m h = mul-le-mul-left k (leb-true 8 e h)
 least-by counting.Raw e k m h = mul-le-mul-left m (leb-true 8 e h)
 least-by counting.Unknown e k m h = omega (arith, zero-mul e)
 
-pub bytes-least : (f : Kind) (k m : ℕ) → countBy (rowOf f .counting) k m ≤ contentBytes f (countBy (rowOf f .counting) k m)
-bytes-least f k m =
+-- the bytes before what is repeated, and one for each time it stands
+pub part-least : (f : Kind) (k m : ℕ) → partAt (rowOf f) / 8 + countBy (rowOf f .counting) k m ≤ contentBytes f (countBy (rowOf f .counting) k m)
+part-least f k m =
     omega (arith, eightfold f (countBy (rowOf f .counting) k m), least-by (rowOf f .counting) (size (rowOf f .each)) k m (good f .least))
+
+pub bytes-least : (f : Kind) (k m : ℕ) → countBy (rowOf f .counting) k m ≤ contentBytes f (countBy (rowOf f .counting) k m)
+bytes-least f k m = omega (arith, part-least f k m)
 
 pub bytes-most : (f : Kind) (n : ℕ) → n ≤ 2000 → contentBytes f n ≤ 10032
 bytes-most f n h =

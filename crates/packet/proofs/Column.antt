@@ -8,7 +8,7 @@ use Rattle.format.proofs.Tables.{size-append, size-times}
 use Rattle.packet.specs.declared.Counting.{Counting}
 use Rattle.packet.specs.declared.Counting.the-variants as counting
 use Rattle.packet.specs.declared.Kind.{Kind}
-use Rattle.packet.specs.declared.Kind.the-variants.{Frequencies, Address, Keep, Clock, Reset, Factory, Drill, Text, Hold, Raw, Unknown}
+use Rattle.packet.specs.declared.Kind.the-variants as kind
 use Rattle.packet.specs.Table.{contentBytes, Row, rowOf, countLine, contentLines}
 use Rattle.packet.specs.Reading.{countSize, partAt, sizesOf}
 
@@ -29,17 +29,17 @@ content-size r k =
 -- are said by the column; what is read and written goes by the lines.
 pub column : (f : Kind) (k : ℕ) → size (contentLines (rowOf f) k) ≡ 8 * contentBytes f k
 unfolding size partAt
-column Frequencies k = content-size (rowOf Frequencies) k ∙ omega arith
-column Address k = content-size (rowOf Address) k ∙ omega arith
-column Keep k = content-size (rowOf Keep) k ∙ omega arith
-column Clock k = content-size (rowOf Clock) k ∙ omega arith
-column Reset k = content-size (rowOf Reset) k ∙ omega arith
-column Factory k = content-size (rowOf Factory) k ∙ omega arith
-column Drill k = content-size (rowOf Drill) k ∙ omega arith
-column Text k = content-size (rowOf Text) k ∙ omega arith
-column Hold k = content-size (rowOf Hold) k ∙ omega arith
-column Raw k = content-size (rowOf Raw) k ∙ omega arith
-column Unknown k = content-size (rowOf Unknown) k ∙ omega arith
+column kind.Frequencies k = content-size (rowOf kind.Frequencies) k ∙ omega arith
+column kind.Address k = content-size (rowOf kind.Address) k ∙ omega arith
+column kind.Keep k = content-size (rowOf kind.Keep) k ∙ omega arith
+column kind.Clock k = content-size (rowOf kind.Clock) k ∙ omega arith
+column kind.Reset k = content-size (rowOf kind.Reset) k ∙ omega arith
+column kind.Factory k = content-size (rowOf kind.Factory) k ∙ omega arith
+column kind.Drill k = content-size (rowOf kind.Drill) k ∙ omega arith
+column kind.Text k = content-size (rowOf kind.Text) k ∙ omega arith
+column kind.Hold k = content-size (rowOf kind.Hold) k ∙ omega arith
+column kind.Raw k = content-size (rowOf kind.Raw) k ∙ omega arith
+column kind.Unknown k = content-size (rowOf kind.Unknown) k ∙ omega arith
 
 -- a row's first lines and its count
 pub lead-is : (r : Row) → partAt r ≡ size (r .before) + countSize (r .counting)

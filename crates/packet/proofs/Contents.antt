@@ -13,7 +13,7 @@ use Rattle.laws.specs.Scan.{all}
 use Rattle.laws.proofs.Cases.{if-yes, and-left, and-right}
 use Rattle.format.specs.Format.{octets}
 use Rattle.packet.specs.declared.Kind.{Kind}
-use Rattle.packet.specs.declared.Kind.the-variants.{Frequencies, Address, Keep, Clock, Reset, Factory, Drill, Text, Hold, Raw, Unknown}
+use Rattle.packet.specs.declared.Kind.the-variants as kind
 use Rattle.packet.specs.declared.Content.{Content}
 use Rattle.packet.specs.declared.Content.the-variants as content
 use Rattle.packet.specs.declared.Counting.the-variants as counting
@@ -50,17 +50,17 @@ listed-take (suc n) i xs h = ap (λ (l : List ℕ). getD xs i 0 ∷ l) (listed-t
 
 -- a content made of numbers and a count is of its kind, and has these again
 pub parts-back : (f : Kind) (xs : List ℕ) (k : ℕ) → isUnknown f ≡ false → partsOf (contentOf f xs k) ≡ record { kind = f; numbers = listed (numbersIn f) 0 xs; count = countBy (rowOf f .counting) k 0 }
-parts-back Frequencies xs k h = refl
-parts-back Address xs k h = refl
-parts-back Keep xs k h = refl
-parts-back Clock xs k h = refl
-parts-back Reset xs k h = refl
-parts-back Factory xs k h = refl
-parts-back Drill xs k h = refl
-parts-back Text xs k h = refl
-parts-back Hold xs k h = refl
-parts-back Raw xs k h = refl
-parts-back Unknown xs k h = absurd (true≢false h)
+parts-back kind.Frequencies xs k h = refl
+parts-back kind.Address xs k h = refl
+parts-back kind.Keep xs k h = refl
+parts-back kind.Clock xs k h = refl
+parts-back kind.Reset xs k h = refl
+parts-back kind.Factory xs k h = refl
+parts-back kind.Drill xs k h = refl
+parts-back kind.Text xs k h = refl
+parts-back kind.Hold xs k h = refl
+parts-back kind.Raw xs k h = refl
+parts-back kind.Unknown xs k h = absurd (true≢false h)
 
 pub kind-back : (f : Kind) (xs : List ℕ) (k : ℕ) → isUnknown f ≡ false → kindFor (contentOf f xs k) ≡ f
 kind-back f xs k h = ap (λ (p : Parts). p .kind) (parts-back f xs k h)
@@ -96,28 +96,28 @@ pub data Repeated : Kind → Type 0 where
   nothing : {f : Kind} → hasEntries f ≡ false → rowOf f .each ≡ [] → ((k m : ℕ) → countBy (rowOf f .counting) k m ≡ 0) → Repeated f
 
 pub repeated : (f : Kind) → Repeated f
-repeated Frequencies = entries refl refl
-repeated Address = octet refl refl
-repeated Keep = nothing refl refl (λ k m. refl)
-repeated Clock = nothing refl refl (λ k m. refl)
-repeated Reset = nothing refl refl (λ k m. refl)
-repeated Factory = nothing refl refl (λ k m. refl)
-repeated Drill = nothing refl refl (λ k m. refl)
-repeated Text = octet refl refl
-repeated Hold = nothing refl refl (λ k m. refl)
-repeated Raw = octet refl refl
-repeated Unknown = nothing refl refl (λ k m. refl)
+repeated kind.Frequencies = entries refl refl
+repeated kind.Address = octet refl refl
+repeated kind.Keep = nothing refl refl (λ k m. refl)
+repeated kind.Clock = nothing refl refl (λ k m. refl)
+repeated kind.Reset = nothing refl refl (λ k m. refl)
+repeated kind.Factory = nothing refl refl (λ k m. refl)
+repeated kind.Drill = nothing refl refl (λ k m. refl)
+repeated kind.Text = octet refl refl
+repeated kind.Hold = nothing refl refl (λ k m. refl)
+repeated kind.Raw = octet refl refl
+repeated kind.Unknown = nothing refl refl (λ k m. refl)
 
 -- only frequencies have entries, and only raw contents are counted so
 one-type : all (λ (f : Kind). cond (hasEntries f) (eqb (typeOf f) 0) true && cond (rawBy (rowOf f .counting)) (eqb (typeOf f) 4) true) kinds ≡ true
 unfolding all
 one-type = refl
 
-pub entries-only : (f : Kind) → hasEntries f ≡ true → f ≡ Frequencies
-entries-only f h = same-kind f Frequencies (eqb-true (typeOf f) 0 (sym (if-yes (eqb (typeOf f) 0) true h) ∙ and-left _ _ (each-kind _ one-type f)))
+pub entries-only : (f : Kind) → hasEntries f ≡ true → f ≡ kind.Frequencies
+entries-only f h = same-kind f kind.Frequencies (eqb-true (typeOf f) 0 (sym (if-yes (eqb (typeOf f) 0) true h) ∙ and-left _ _ (each-kind _ one-type f)))
 
-pub raw-only : (f : Kind) → rowOf f .counting ≡ counting.Raw → f ≡ Raw
-raw-only f h = same-kind f Raw (eqb-true (typeOf f) 4 (sym (if-yes (eqb (typeOf f) 4) true (ap rawBy h)) ∙ and-right (cond (hasEntries f) (eqb (typeOf f) 0) true) _ (each-kind _ one-type f)))
+pub raw-only : (f : Kind) → rowOf f .counting ≡ counting.Raw → f ≡ kind.Raw
+raw-only f h = same-kind f kind.Raw (eqb-true (typeOf f) 4 (sym (if-yes (eqb (typeOf f) 4) true (ap rawBy h)) ∙ and-right (cond (hasEntries f) (eqb (typeOf f) 0) true) _ (each-kind _ one-type f)))
 
 -- ---- in code: a content laid out, and numbers cut to the room of their fields
 pub laid-is : (c : Content) (r : Laid) (xs : List ℕ) → r ≡ record { kind = kindFor c; n = length (numbersOf c); numbers = xs; count = partsOf c .count } → xs ≡ padded 6 (numbersOf c) → r ≡ laidOf c

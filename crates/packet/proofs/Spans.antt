@@ -13,7 +13,7 @@ use Rattle.format.specs.declared.Line.{Line}
 use Rattle.packet.specs.declared.Lines.{Lines}
 use Rattle.packet.specs.declared.RowLines.{RowLines}
 use Rattle.packet.specs.declared.Kind.{Kind}
-use Rattle.packet.specs.declared.Kind.the-variants.{Frequencies, Address, Keep, Clock, Reset, Factory, Drill, Text, Hold, Raw, Unknown}
+use Rattle.packet.specs.declared.Kind.the-variants as kind
 use Rattle.packet.specs.Table.{kinds, Row, rowOf, code, ending}
 use Rattle.packet.specs.InCode.{linesOfEach, everyLine, linesUpTo, codeAt, endingAt, rowAt, linesIn, Stands}
 use Rattle.packet.proofs.Each.{each-kind}
@@ -33,17 +33,17 @@ pub record StandsFor (r : RowLines) (t : Row) : Type 0 where
 -- the lines at the three places of a kind's row are the row's
 lines-at : (f : Kind) → (linesIn (rowAt f .before) ≡ rowOf f .before) × (linesIn (rowAt f .each) ≡ rowOf f .each) × (linesIn (rowAt f .after) ≡ rowOf f .after)
 unfolding rowAt linesUpTo everyLine linesOfEach
-lines-at Frequencies = (refl, refl, refl)
-lines-at Address = (refl, refl, refl)
-lines-at Keep = (refl, refl, refl)
-lines-at Clock = (refl, refl, refl)
-lines-at Reset = (refl, refl, refl)
-lines-at Factory = (refl, refl, refl)
-lines-at Drill = (refl, refl, refl)
-lines-at Text = (refl, refl, refl)
-lines-at Hold = (refl, refl, refl)
-lines-at Raw = (refl, refl, refl)
-lines-at Unknown = (refl, refl, refl)
+lines-at kind.Frequencies = (refl, refl, refl)
+lines-at kind.Address = (refl, refl, refl)
+lines-at kind.Keep = (refl, refl, refl)
+lines-at kind.Clock = (refl, refl, refl)
+lines-at kind.Reset = (refl, refl, refl)
+lines-at kind.Factory = (refl, refl, refl)
+lines-at kind.Drill = (refl, refl, refl)
+lines-at kind.Text = (refl, refl, refl)
+lines-at kind.Hold = (refl, refl, refl)
+lines-at kind.Raw = (refl, refl, refl)
+lines-at kind.Unknown = (refl, refl, refl)
 
 -- and they are few, and all there
 abbrev fits : Lines → Bool

@@ -19,7 +19,8 @@ pick false a b = b
 -- what is opened, what is carried raw, and what is refused (000, table 2; 01, What travels); type 16 since the licence ended, for old shelves (02, K13)
 unfoldable pub kindOf : ℕ → Kind
 kindOf t =
-    pick (eqb t 0) Frequencies
+    pick (leb 25 t) Unknown
+    (pick (eqb t 0) Frequencies
     (pick (eqb t 1) Address
     (pick (eqb t 2) Keep
     (pick (eqb t 3) Clock
@@ -32,7 +33,7 @@ kindOf t =
     (pick (leb 4 t && leb t 8) Raw
     (pick (eqb t 11) Raw
     (pick (leb 22 t && leb t 24) Raw
-    Unknown))))))))))))
+    Unknown)))))))))))))
 
 -- what is read and no longer written: the fast command, type 16 (02, K13)
 abbrev pub onlyRead : ℕ → Bool
@@ -58,11 +59,11 @@ typeOf Unknown = 31
 
 -- the types that a reader answers 23 (01, Numbers given back); the last of the kinds above is theirs: `packet:ByType.refused-types`
 abbrev pub refusedType : ℕ → Bool
-refusedType t = eqb t 9 || (eqb t 10 || ((leb 17 t && leb t 20) || leb 25 t))
+refusedType t = leb 25 t || (eqb t 9 || (eqb t 10 || (leb 17 t && leb t 20)))
 
 -- and those that a writer does, 16 among them (02, K13): `packet:ByType.unwritten-types`
 abbrev pub unwrittenType : ℕ → Bool
-unwrittenType t = eqb t 9 || (eqb t 10 || ((leb 16 t && leb t 20) || leb 25 t))
+unwrittenType t = leb 25 t || (eqb t 9 || (eqb t 10 || (leb 16 t && leb t 20)))
 
 -- ---- the column of content bytes (01, Packet), k being the row's k, m or t, and the bytes of a raw content
 abbrev pub contentBytes : Kind → ℕ → ℕ

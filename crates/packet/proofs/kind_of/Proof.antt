@@ -49,16 +49,16 @@ unfolding kindOf
 returns-11 c = rw (c .match .keys11)
 
 returns-12 : tie.Need-returns-12
-returns-12 c = types.low (c .before .before .args .t) (record { n0 = c .before .match .rest .0 .0 .0 .0 .0 .0 .0 .0 .0 .0 .1; n1 = c .before .match .rest .0 .0 .0 .0 .0 .0 .0 .0 .0 .1; n2 = c .before .match .rest .0 .0 .0 .0 .0 .0 .0 .0 .1; n3 = c .before .match .rest .0 .0 .0 .0 .0 .0 .0 .1; n12 = c .before .match .rest .0 .0 .0 .0 .0 .0 .1; n13 = c .before .match .rest .0 .0 .0 .0 .0 .1; n14 = c .before .match .rest .0 .0 .0 .0 .1; n15 = c .before .match .rest .0 .0 .0 .1; n16 = c .before .match .rest .0 .0 .1; n21 = c .before .match .rest .0 .1; n11 = c .before .match .rest .1 }) (c .if1 .taken)
+returns-12 c = types.low (c .before .before .args .t) (c .before .match .rest) (c .if1 .taken)
 
 returns-13 : tie.Need-returns-13
-returns-13 c = types.high (c .before .before .before .before .args .t) (record { n0 = c .before .before .before .match .rest .0 .0 .0 .0 .0 .0 .0 .0 .0 .0 .1; n1 = c .before .before .before .match .rest .0 .0 .0 .0 .0 .0 .0 .0 .0 .1; n2 = c .before .before .before .match .rest .0 .0 .0 .0 .0 .0 .0 .0 .1; n3 = c .before .before .before .match .rest .0 .0 .0 .0 .0 .0 .0 .1; n12 = c .before .before .before .match .rest .0 .0 .0 .0 .0 .0 .1; n13 = c .before .before .before .match .rest .0 .0 .0 .0 .0 .1; n14 = c .before .before .before .match .rest .0 .0 .0 .0 .1; n15 = c .before .before .before .match .rest .0 .0 .0 .1; n16 = c .before .before .before .match .rest .0 .0 .1; n21 = c .before .before .before .match .rest .0 .1; n11 = c .before .before .before .match .rest .1 }) (c .before .if2 .left) (c .if3 .taken)
+returns-13 c = types.high (c .before .before .before .before .args .t) (c .before .before .before .match .rest) (c .before .if2 .left) (c .if3 .taken)
 
 returns-14 : tie.Need-returns-14
-returns-14 c = types.middle (c .before .before .before .args .t) (record { n0 = c .before .before .match .rest .0 .0 .0 .0 .0 .0 .0 .0 .0 .0 .1; n1 = c .before .before .match .rest .0 .0 .0 .0 .0 .0 .0 .0 .0 .1; n2 = c .before .before .match .rest .0 .0 .0 .0 .0 .0 .0 .0 .1; n3 = c .before .before .match .rest .0 .0 .0 .0 .0 .0 .0 .1; n12 = c .before .before .match .rest .0 .0 .0 .0 .0 .0 .1; n13 = c .before .before .match .rest .0 .0 .0 .0 .0 .1; n14 = c .before .before .match .rest .0 .0 .0 .0 .1; n15 = c .before .before .match .rest .0 .0 .0 .1; n16 = c .before .before .match .rest .0 .0 .1; n21 = c .before .before .match .rest .0 .1; n11 = c .before .before .match .rest .1 }) (c .before .if1 .left) (c .if2 .taken)
+returns-14 c = types.middle (c .before .before .before .args .t) (c .before .before .match .rest) (c .before .if1 .left) (c .if2 .taken)
 
 returns-15 : tie.Need-returns-15
-returns-15 c = types.above (c .before .before .before .before .args .t) (record { n0 = c .before .before .before .match .rest .0 .0 .0 .0 .0 .0 .0 .0 .0 .0 .1; n1 = c .before .before .before .match .rest .0 .0 .0 .0 .0 .0 .0 .0 .0 .1; n2 = c .before .before .before .match .rest .0 .0 .0 .0 .0 .0 .0 .0 .1; n3 = c .before .before .before .match .rest .0 .0 .0 .0 .0 .0 .0 .1; n12 = c .before .before .before .match .rest .0 .0 .0 .0 .0 .0 .1; n13 = c .before .before .before .match .rest .0 .0 .0 .0 .0 .1; n14 = c .before .before .before .match .rest .0 .0 .0 .0 .1; n15 = c .before .before .before .match .rest .0 .0 .0 .1; n16 = c .before .before .before .match .rest .0 .0 .1; n21 = c .before .before .before .match .rest .0 .1; n11 = c .before .before .before .match .rest .1 }) (c .if3 .left)
+returns-15 c = types.above (c .before .before .before .before .args .t) (c .if3 .left)
 
 pub kind-of-spec : {M : Type 1} → statement M
 kind-of-spec =
