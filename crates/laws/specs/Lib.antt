@@ -4,3 +4,4 @@ pub mod Refusals
 pub mod Scan
 pub mod Bits
 pub mod Lists
+pub mod Strips

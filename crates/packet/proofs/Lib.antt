@@ -9,3 +9,4 @@ pub mod Contents
 pub mod Bytes
 pub mod Lent
 pub mod Spans
+pub mod Columns

@@ -1,10 +1,12 @@
 -- A kind's row in code stands for its row in the table: the lines at each place are the row's. Assumes nothing.
-use mathlib.Core.Path.{_≡_, refl, sym, subst}
+use mathlib.Core.Path.{_≡_, refl, sym, ap, subst, _∙_}
 use mathlib.Core.Bool.{Bool, true, _&&_}
-use mathlib.Core.List.{List}
-use Prim.Native.Nat.{_+_}
+use mathlib.Core.List.{List, [], _∷_}
+use Prim.Native.Nat.{ℕ, zero, suc, _+_, _-_, _≤_}
+use native.Mathlib.Nat.{sub-zero}
 use native.Mathlib.Omega.{arith}
-use lib.ListN.{length}
+use lib.ListN.{length, take, drop}
+use lib.Seq.{take-nil, take-take, drop-drop}
 use lib.Dec.{leb}
 use borrow.Author.Tests.{leb-true}
 use Rattle.laws.specs.Scan.{all}
@@ -15,8 +17,9 @@ use Rattle.packet.specs.declared.RowLines.{RowLines}
 use Rattle.packet.specs.declared.Kind.{Kind}
 use Rattle.packet.specs.declared.Kind.the-variants as kind
 use Rattle.packet.specs.Table.{kinds, Row, rowOf, code, ending}
-use Rattle.packet.specs.InCode.{linesOfEach, everyLine, linesUpTo, codeAt, endingAt, rowAt, linesIn, Stands}
+use Rattle.packet.specs.InCode.{linesOfEach, everyLine, linesUpTo, linesFor, ownLines, ownOf, besideOf, codeAt, endingAt, rowAt, linesIn, Stands}
 use Rattle.packet.proofs.Each.{each-kind}
+use Rattle.packet.proofs.Columns.{columned}
 
 -- lines in code stand for the lines ts
 pub record Listed (r : Lines) (ts : List Line) : Type 0 where
@@ -78,6 +81,42 @@ row-stands f =
 -- what code that gives a kind's row has of it
 pub stands : (f : Kind) {r : RowLines} → r ≡ rowAt f → StandsFor r (rowOf f)
 stands f e = subst (λ (r : RowLines). StandsFor r (rowOf f)) (sym e) (row-stands f)
+
+-- the first lines of a row that hold the content's own numbers, and the others, in code
+pub record Parted (f : Kind) (o : ℕ) (r : Lines) : Type 0 where
+  pub own : take o (drop (r .from) everyLine) ≡ ownOf f
+  pub beside : take (r .m - o) (drop (r .from + o) everyLine) ≡ besideOf f
+  pub some : o ≤ r .m
+  pub few : Stands r
+
+rest-of : (j m : ℕ) (l : List Line) → j ≤ m → take (m - j) (drop j l) ≡ drop j (take m l)
+rest-of zero m l h = ap (λ (n : ℕ). take n l) (sub-zero m)
+rest-of (suc j) zero l h = absurd (omega arith)
+rest-of (suc j) (suc m) [] h = take-nil (suc m - suc j)
+rest-of (suc j) (suc m) (x ∷ l) h = let e : suc m - suc j ≡ m - j = omega arith in ap (λ (n : ℕ). take n (drop j l)) e ∙ rest-of j m l (omega arith)
+
+parted-few : (f : Kind) → rowAt f .own ≤ rowAt f .before .m
+unfolding rowAt
+parted-few f = columned f .few
+
+own-is : (f : Kind) (g : ℕ → List Line) → g (rowAt f .own) ≡ g (ownLines f)
+unfolding rowAt
+own-is f g = refl
+
+pub parted : (f : Kind) {r : RowLines} → r ≡ rowAt f → Parted f (r .own) (r .before)
+parted f e =
+    let o = rowAt f .own in
+    let m = rowAt f .before .m in
+    let p = rowAt f .before .from in
+    let h = parted-few f in
+    let l = lines-at f .0 in
+    subst (λ (r : RowLines). Parted f (r .own) (r .before)) (sym e)
+    (record {
+      own = sym (take-take o m (drop p everyLine) h) ∙ ap (take o) l ∙ own-is f (λ (n : ℕ). take n (rowOf f .before));
+      beside = ap (take (m - o)) (sym (drop-drop o p everyLine)) ∙ rest-of o m (drop p everyLine) h ∙ ap (drop o) l ∙ own-is f (λ (n : ℕ). drop n (rowOf f .before));
+      some = h;
+      few = row-stands f .first .few;
+    })
 
 -- and of the lines of a code, and of what follows the content
 pub listed-code : {r : Lines} → r ≡ codeAt → Listed r code

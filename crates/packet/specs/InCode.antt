@@ -1,10 +1,10 @@
 -- The code's table is that of Table (01, Packet), as one list of lines, of which a row names parts; and its contents, as plain numbers and back.
-use mathlib.Core.Bool.{cond}
+use mathlib.Core.Bool.{cond, _&&_}
 use mathlib.Core.List.{List, [], _∷_, _++_}
-use Prim.Native.Nat.{ℕ, _+_, _%_, _≤_}
+use Prim.Native.Nat.{ℕ, suc, _+_, _-_, _*_, _%_, _≤_}
 use lib.Dec.{leb, eqb}
 use lib.ListN.{length, take, drop, replicate}
-use Rattle.format.specs.Format.{size, need}
+use Rattle.format.specs.Format.{own, size, need}
 use Rattle.format.specs.declared.Line.{Line}
 use Rattle.packet.specs.declared.Lines.{Lines}
 use Rattle.packet.specs.declared.RowLines.{RowLines}
@@ -12,7 +12,7 @@ use Rattle.packet.specs.declared.Kind.{Kind}
 use Rattle.packet.specs.declared.Content.{Content}
 use Rattle.packet.specs.declared.Laid.{Laid}
 use Rattle.packet.specs.Table.{kinds, typeOf, Row, rowOf, code, ending}
-use Rattle.packet.specs.Content.{contentOf, partsOf, kindFor, numbersOf}
+use Rattle.packet.specs.Content.{contentOf, partsOf, kindFor, numbersOf, numbersIn}
 use Rattle.packet.specs.Reading.{padded}
 
 -- ---- the table as one list of lines: a code's, those of what follows the content, and each row's, kind by kind
@@ -50,11 +50,29 @@ codeAt = spanAt 0 code
 unfoldable pub endingAt : Lines
 endingAt = spanAt (length code) ending
 
+-- so many of these lines hold n numbers and end with a byte, s bits having gone before
+unfoldable pub linesFor : ℕ → ℕ → List Line → ℕ
+linesFor n s [] = 0
+linesFor n s (t ∷ ts) = cond (eqb n 0 && eqb (s % 8) 0) 0 (suc (linesFor (n - own t) (s + t .count * t .width) ts))
+
+-- so many lines hold a content's own numbers
+unfoldable pub ownLines : Kind → ℕ
+ownLines f = linesFor (numbersIn f) 0 (rowOf f .before)
+
+-- those lines
+abbrev pub ownOf : Kind → List Line
+ownOf f = take (ownLines f) (rowOf f .before)
+
+-- and those of the digits beside it
+abbrev pub besideOf : Kind → List Line
+besideOf f = drop (ownLines f) (rowOf f .before)
+
 -- a kind's row in code
 unfoldable pub rowAt : Kind → RowLines
 rowAt f =
     record {
       counting = rowOf f .counting;
+      own = ownLines f;
       before = spanAt (placeOf f) (rowOf f .before);
       each = spanAt (placeOf f + length (rowOf f .before)) (rowOf f .each);
       after = spanAt (placeOf f + length (rowOf f .before) + length (rowOf f .each)) (rowOf f .after);

@@ -4,3 +4,4 @@ pub mod Reading
 pub mod Writing
 pub mod Examples
 pub mod InCode
+pub mod Columns

@@ -40,9 +40,10 @@ pub struct Lines {
     pub numbers: usize,
 }
 
-// A row of the table of contents: lines, a row that is repeated, lines.
+// A row of the table of contents: lines, of which the first own ones hold the content's own numbers, a row that is repeated, lines.
 pub struct RowLines {
     pub counting: Counting,
+    pub own: usize,
     pub before: Lines,
     pub each: Lines,
     pub after: Lines,

@@ -83,43 +83,49 @@ pub fn ending_lines() -> Lines
     rows::span(2, 3, 592, 77)
 }
 
-// The row of a kind in the table of contents: where its lines stand, how many they are, their bits, their own numbers.
+// The row of a kind in the table of contents: how many lines hold the content's own numbers, and where its
+// lines stand, how many they are, their bits, their own numbers.
 pub fn row_of(f: Kind) -> RowLines
     ensures { λ r. ⌜ r ≡ rowAt f ⌝ }
 {
     match f {
         Kind::Frequencies => rows::a_row(
             Counting::Counted,
+            0,
             rows::span(5, 0, 0, 0),
             rows::span(5, 3, 40, 8),
             rows::span(8, 0, 0, 0),
         ),
         Kind::Address => rows::a_row(
             Counting::Counted,
+            0,
             rows::span(8, 0, 0, 0),
             rows::span(8, 1, 8, 1),
             rows::span(9, 2, 96, 23),
         ),
-        Kind::Keep => rows::fixed_row(11, 2, 24, 2),
-        Kind::Clock => rows::fixed_row(13, 6, 56, 6),
-        Kind::Reset => rows::fixed_row(19, 4, 32, 7),
-        Kind::Factory => rows::fixed_row(23, 2, 8, 0),
-        Kind::Drill => rows::fixed_row(25, 4, 152, 36),
+        Kind::Keep => rows::fixed_row(2, 11, 2, 24, 2),
+        Kind::Clock => rows::fixed_row(6, 13, 6, 56, 6),
+        Kind::Reset => rows::fixed_row(3, 19, 4, 32, 7),
+        Kind::Factory => rows::fixed_row(0, 23, 2, 8, 0),
+        Kind::Drill => rows::fixed_row(2, 25, 4, 152, 36),
         Kind::Text => rows::a_row(
             Counting::Counted,
+            2,
             rows::span(29, 4, 152, 37),
             rows::span(33, 1, 8, 1),
             rows::span(34, 0, 0, 0),
         ),
-        Kind::Hold => rows::fixed_row(34, 2, 16, 1),
+        Kind::Hold => rows::fixed_row(1, 34, 2, 16, 1),
         Kind::Raw => rows::a_row(
             Counting::Raw,
+            0,
             rows::span(36, 0, 0, 0),
             rows::span(36, 1, 8, 1),
             rows::span(37, 0, 0, 0),
         ),
         Kind::Unknown => rows::a_row(
             Counting::Unknown,
+            0,
             rows::span(37, 0, 0, 0),
             rows::span(37, 0, 0, 0),
             rows::span(37, 0, 0, 0),

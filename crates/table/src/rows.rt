@@ -106,12 +106,19 @@ pub(crate) fn span(from: usize, m: usize, bits: usize, numbers: usize) -> Lines
     }
 }
 
-// Lines, a row that is repeated, lines.
-pub(crate) fn a_row(counting: Counting, before: Lines, each: Lines, after: Lines) -> RowLines
-    ensures { λ r. ⌜ r ≡ record { counting = counting; before = before; each = each; after = after } ⌝ }
+// Lines, a row that is repeated, lines; the first own of them hold the content's own numbers.
+pub(crate) fn a_row(
+    counting: Counting,
+    own: usize,
+    before: Lines,
+    each: Lines,
+    after: Lines,
+) -> RowLines
+    ensures { λ r. ⌜ r ≡ record { counting = counting; own = own; before = before; each = each; after = after } ⌝ }
 {
     RowLines {
         counting: counting,
+        own: own,
         before: before,
         each: each,
         after: after,
@@ -119,11 +126,11 @@ pub(crate) fn a_row(counting: Counting, before: Lines, each: Lines, after: Lines
 }
 
 // A content of lines alone.
-pub(crate) fn fixed_row(from: usize, m: usize, bits: usize, numbers: usize) -> RowLines
+pub(crate) fn fixed_row(own: usize, from: usize, m: usize, bits: usize, numbers: usize) -> RowLines
     requires { ⌜ from + m ≤ 1000 ⌝ }
-    ensures { λ r. ⌜ r ≡ record { counting = counting.Fixed; before = record { from = from; m = m; bits = bits; numbers = numbers }; each = record { from = from + m; m = 0; bits = 0; numbers = 0 }; after = record { from = from + m; m = 0; bits = 0; numbers = 0 } } ⌝ }
+    ensures { λ r. ⌜ r ≡ record { counting = counting.Fixed; own = own; before = record { from = from; m = m; bits = bits; numbers = numbers }; each = record { from = from + m; m = 0; bits = 0; numbers = 0 }; after = record { from = from + m; m = 0; bits = 0; numbers = 0 } } ⌝ }
 {
     let before = span(from, m, bits, numbers);
     let none = span(from + m, 0, 0, 0);
-    a_row(Counting::Fixed, before, none, none)
+    a_row(Counting::Fixed, own, before, none, none)
 }

@@ -1,20 +1,21 @@
 -- `table::row_of` meets its contract: each row's places are computed. Assumes nothing.
 use mathlib.Core.Path.{_≡_, sym, ap, _∙_}
+use Prim.Native.Nat.{ℕ}
 use Rattle.packet.specs.declared.Counting.{Counting}
 use Rattle.packet.specs.declared.Lines.{Lines}
 use Rattle.packet.specs.declared.RowLines.{RowLines}
 use Rattle.format.specs.Format.{size, need}
-use Rattle.packet.specs.InCode.{linesUpTo, rowAt}
+use Rattle.packet.specs.InCode.{linesUpTo, linesFor, ownLines, rowAt}
 use borrow.Author.Needs.{needs}
 use Rattle.table.proofs.row_of.Statement.{statement}
 use Rattle.table.proofs.row_of.Tie as tie
 
 -- a row of three parts
-abbrev three : Counting → Lines → Lines → Lines → RowLines
-three s a b c = record { counting = s; before = a; each = b; after = c }
+abbrev three : Counting → ℕ → Lines → Lines → Lines → RowLines
+three s o a b c = record { counting = s; own = o; before = a; each = b; after = c }
 
-made : (s : Counting) {a a″ b b″ c c″ : Lines} → a ≡ a″ → b ≡ b″ → c ≡ c″ → three s a b c ≡ three s a″ b″ c″
-made s p q r = rw (p, q, r)
+made : (s : Counting) (o : ℕ) {a a″ b b″ c c″ : Lines} → a ≡ a″ → b ≡ b″ → c ≡ c″ → three s o a b c ≡ three s o a″ b″ c″
+made s o p q r = rw (p, q, r)
 
 enum-told : tie.Need-enum-told
 enum-told c = search needs
@@ -128,62 +129,62 @@ a-row-requires-5 : tie.Need-a-row-requires-5
 a-row-requires-5 c κs = search needs
 
 returns : tie.Need-returns
-unfolding rowAt linesUpTo size need
+unfolding rowAt linesUpTo linesFor ownLines size need
 returns c =
     c .a-row .ensures
-    ∙ made _ (c .before .before .before .span .ensures) (c .before .before .span2 .ensures) (c .before .span3 .ensures)
+    ∙ made _ _ (c .before .before .before .span .ensures) (c .before .before .span2 .ensures) (c .before .span3 .ensures)
     ∙ sym (ap rowAt (c .before .before .before .before .enum-told .given .1))
 
 returns-2 : tie.Need-returns-2
-unfolding rowAt linesUpTo size need
+unfolding rowAt linesUpTo linesFor ownLines size need
 returns-2 c =
     c .a-row2 .ensures
-    ∙ made _ (c .before .before .before .span4 .ensures) (c .before .before .span5 .ensures) (c .before .span6 .ensures)
+    ∙ made _ _ (c .before .before .before .span4 .ensures) (c .before .before .span5 .ensures) (c .before .span6 .ensures)
     ∙ sym (ap rowAt (c .before .before .before .before .enum-told2 .given .1))
 
 returns-3 : tie.Need-returns-3
-unfolding rowAt linesUpTo size need
+unfolding rowAt linesUpTo linesFor ownLines size need
 returns-3 c = c .fixed-row .ensures ∙ sym (ap rowAt (c .before .enum-told3 .given .1))
 
 returns-4 : tie.Need-returns-4
-unfolding rowAt linesUpTo size need
+unfolding rowAt linesUpTo linesFor ownLines size need
 returns-4 c = c .fixed-row2 .ensures ∙ sym (ap rowAt (c .before .enum-told4 .given .1))
 
 returns-5 : tie.Need-returns-5
-unfolding rowAt linesUpTo size need
+unfolding rowAt linesUpTo linesFor ownLines size need
 returns-5 c = c .fixed-row3 .ensures ∙ sym (ap rowAt (c .before .enum-told5 .given .1))
 
 returns-6 : tie.Need-returns-6
-unfolding rowAt linesUpTo size need
+unfolding rowAt linesUpTo linesFor ownLines size need
 returns-6 c = c .fixed-row4 .ensures ∙ sym (ap rowAt (c .before .enum-told6 .given .1))
 
 returns-7 : tie.Need-returns-7
-unfolding rowAt linesUpTo size need
+unfolding rowAt linesUpTo linesFor ownLines size need
 returns-7 c = c .fixed-row5 .ensures ∙ sym (ap rowAt (c .before .enum-told7 .given .1))
 
 returns-8 : tie.Need-returns-8
-unfolding rowAt linesUpTo size need
+unfolding rowAt linesUpTo linesFor ownLines size need
 returns-8 c =
     c .a-row3 .ensures
-    ∙ made _ (c .before .before .before .span7 .ensures) (c .before .before .span8 .ensures) (c .before .span9 .ensures)
+    ∙ made _ _ (c .before .before .before .span7 .ensures) (c .before .before .span8 .ensures) (c .before .span9 .ensures)
     ∙ sym (ap rowAt (c .before .before .before .before .enum-told8 .given .1))
 
 returns-9 : tie.Need-returns-9
-unfolding rowAt linesUpTo size need
+unfolding rowAt linesUpTo linesFor ownLines size need
 returns-9 c = c .fixed-row6 .ensures ∙ sym (ap rowAt (c .before .enum-told9 .given .1))
 
 returns-10 : tie.Need-returns-10
-unfolding rowAt linesUpTo size need
+unfolding rowAt linesUpTo linesFor ownLines size need
 returns-10 c =
     c .a-row4 .ensures
-    ∙ made _ (c .before .before .before .span10 .ensures) (c .before .before .span11 .ensures) (c .before .span12 .ensures)
+    ∙ made _ _ (c .before .before .before .span10 .ensures) (c .before .before .span11 .ensures) (c .before .span12 .ensures)
     ∙ sym (ap rowAt (c .before .before .before .before .enum-told10 .given .1))
 
 returns-11 : tie.Need-returns-11
-unfolding rowAt linesUpTo size need
+unfolding rowAt linesUpTo linesFor ownLines size need
 returns-11 c =
     c .a-row5 .ensures
-    ∙ made _ (c .before .before .before .span13 .ensures) (c .before .before .span14 .ensures) (c .before .span15 .ensures)
+    ∙ made _ _ (c .before .before .before .span13 .ensures) (c .before .before .span14 .ensures) (c .before .span15 .ensures)
     ∙ sym (ap rowAt (c .before .before .before .before .enum-told11 .given .1))
 
 pub row-of-spec : {M : Type 1} → statement M
