@@ -17,9 +17,17 @@ plain t = eqb (t .answer) 0
 abbrev pub asks : Line → Bool
 asks t = plain t || asked (t .answer)
 
+-- what a line's numbers pass that are as it says, or not
+abbrev pub passing : Line → Bool → ℕ → Bool
+passing t x k = cond (eqb (t .answer) k) x true
+
 -- the smaller of two numbers
 abbrev pub lesser : ℕ → ℕ → ℕ
 lesser a b = cond (ltb b a) b a
+
+-- the answer of a packet whose codes and content are due d, and whose certificate's digits are such or not, and whose day is none or one
+abbrev pub lineAnswer : ℕ → Bool → Bool → ℕ
+lineAnswer d digits day = cond (eqb (cond digits d (lesser d 25)) 255) (cond day 27 0) (cond digits d (lesser d 25))
 
 -- r is the least of these numbers whose test fails, and 255 where none does
 pub record Judged (passes : ℕ → Bool) (r : ℕ) : Type 0 where

@@ -1,8 +1,8 @@
--- `reader::lines::width` meets its contract. Assumes nothing.
+-- `reader::columns::width` meets its contract. Assumes nothing.
 use mathlib.Core.Path.{refl}
 use native.Mathlib.Omega.{arith}
-use Rattle.reader.proofs.lines.width.Statement.{statement}
-use Rattle.reader.proofs.lines.width.Tie as tie
+use Rattle.reader.proofs.columns.width.Statement.{statement}
+use Rattle.reader.proofs.columns.width.Tie as tie
 use Rattle.format.proofs.Sound.{sound-is}
 
 mul-result : tie.Need-mul-result

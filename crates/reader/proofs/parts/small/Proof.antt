@@ -1,4 +1,4 @@
--- `reader::lines::small` meets its contract. Assumes nothing.
+-- `reader::parts::small` meets its contract. Assumes nothing.
 use mathlib.Core.Path.{_≡_, _∙_}
 use denote.Ref.{now}
 use native.Mathlib.Omega.{arith}
@@ -7,8 +7,8 @@ use Rattle.laws.proofs.Bits.{at-small}
 use Rattle.laws.proofs.Cases.{if-yes}
 use Rattle.format.proofs.Leaves.{reached}
 use borrow.Author.Needs.{needs}
-use Rattle.reader.proofs.lines.small.Statement.{statement}
-use Rattle.reader.proofs.lines.small.Tie as tie
+use Rattle.reader.proofs.parts.small.Statement.{statement}
+use Rattle.reader.proofs.parts.small.Tie as tie
 
 field-requires : tie.Need-field-requires
 field-requires c κs = search needs

@@ -1,9 +1,9 @@
--- `reader::lines::least` meets its contract. Assumes nothing.
+-- `reader::columns::least` meets its contract. Assumes nothing.
 use mathlib.Core.Path.{sym}
 use borrow.Author.Tests.{lt-ltb, le-ltb}
 use Rattle.laws.proofs.Cases.{if-yes, if-no}
-use Rattle.reader.proofs.lines.least.Statement.{statement}
-use Rattle.reader.proofs.lines.least.Tie as tie
+use Rattle.reader.proofs.columns.least.Statement.{statement}
+use Rattle.reader.proofs.columns.least.Tie as tie
 
 returns : tie.Need-returns
 returns c = sym (if-yes _ _ (lt-ltb _ _ (c .if1 .taken)))
