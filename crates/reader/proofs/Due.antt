@@ -17,7 +17,7 @@ use Rattle.format.specs.Format.{octets, times, size, decode, lineOk, fine, unme
 use Rattle.packet.specs.InCode.{linesOfEach, everyLine}
 use Rattle.packet.proofs.Loops as laws
 use Rattle.packet.proofs.Loops.{lines-cons, rows-unmet}
-use Rattle.reader.specs.Due.{asked, plain, asks, lesser, Judged}
+use Rattle.reader.specs.Due.{asked, plain, asks, passing, lesser, Judged}
 
 -- ---- parts behind each other: F is the whole, G what is still to come
 pub record Going (F G : ℕ → Bool) (d : ℕ) : Type 0 where
@@ -88,20 +88,18 @@ asked-some k a e = asked-cases k a (λ x. omega arith) (λ x. omega arith) (λ x
 pub asked-not : (k : ℕ) → asked k ≡ true → k ≡ 26 → ⊥
 asked-not k a e = asked-cases k a (λ x. omega arith) (λ x. omega arith) (λ x. omega arith)
 
-module _ (t : Line) (v : List ℕ) where
-  pub line-none : t .answer ≡ 0 → Judged (λ (k : ℕ). lineOk k t v) 255
-  line-none e = none-due (λ (k : ℕ). lineOk k t v) (λ k a. if-no _ _ (ne-eqb (t .answer) k (λ x. asked-some k a (sym x ∙ e))))
+module _ (t : Line) (x : Bool) where
+  pub line-none : t .answer ≡ 0 → Judged (passing t x) 255
+  line-none e = none-due (passing t x) (λ k a. if-no _ _ (ne-eqb (t .answer) k (λ y. asked-some k a (sym y ∙ e))))
 
-  pub line-fine : lineOk (t .answer) t v ≡ true → Judged (λ (k : ℕ). lineOk k t v) 255
-  line-fine e =
-      none-due (λ (k : ℕ). lineOk k t v)
-      (λ k a. by-test (eqb (t .answer) k) (λ x. subst (λ (n : ℕ). lineOk n t v ≡ true) (eqb-true (t .answer) k x) e) (λ x. if-no _ _ x))
+  pub line-fine : x ≡ true → Judged (passing t x) 255
+  line-fine e = none-due (passing t x) (λ k a. by-test (eqb (t .answer) k) (λ y. if-yes x true y ∙ e) (λ y. if-no x true y))
 
-  pub line-due : asks t ≡ true → (t .answer ≡ 0 → ⊥) → lineOk (t .answer) t v ≡ false → Judged (λ (k : ℕ). lineOk k t v) (t .answer)
+  pub line-due : asks t ≡ true → (t .answer ≡ 0 → ⊥) → x ≡ false → Judged (passing t x) (t .answer)
   line-due q n e =
       record {
-        fine = λ k a l. if-no _ _ (ne-eqb (t .answer) k (λ x. absurd (omega arith)));
-        due = λ l. (sym (or-no _ (ne-eqb (t .answer) 0 n)) ∙ q, e);
+        fine = λ k a l. if-no _ _ (ne-eqb (t .answer) k (λ y. absurd (omega arith)));
+        due = λ l. (sym (or-no _ (ne-eqb (t .answer) 0 n)) ∙ q, if-yes x true (eq-eqb (t .answer) (t .answer) refl) ∙ e);
       }
 
 -- every line of the table asks so, and so does what stands past the last

@@ -1,0 +1,109 @@
+-- Lines taken by columns, a line in all of its rows and then the next: what a turn adds, and where the line stands. Assumes nothing.
+use mathlib.Core.Path.{_≡_, refl, sym, ap, ap₂, _∙_}
+use mathlib.Core.Bool.{Bool, true, false, cond, _&&_}
+use mathlib.Core.List.{List, [], _∷_, _++_, append-nil}
+use Prim.Native.Nat.{ℕ, zero, suc, _+_, _*_, _%_, _<_, _≤_}
+use native.Mathlib.Nat.{zero-mul, add-zero}
+use native.Mathlib.Numerals.{add-one}
+use native.Mathlib.Omega.{arith}
+use lib.ListN.{length, getD, take, drop, drop-of-length-le}
+use lib.Seq.{take-suc, sets}
+use lib.Dec.{eqb}
+use Rattle.laws.specs.Bits.{run, bits}
+use Rattle.laws.specs.Strips.{strips, joined, every}
+use Rattle.laws.proofs.Cases.{if-yes, if-no, and-both}
+use Rattle.laws.proofs.Elements.{by-test}
+use Rattle.laws.proofs.Strips.{strips-beside, strips-same, strips-whole, every-and, every-same, every-true}
+use Rattle.format.specs.declared.Line.{Line}
+use Rattle.format.specs.Format.{times, own, size, need, inside, decode, flat, fine, lineOk}
+use Rattle.format.proofs.Tables.{size-append, need-append, flat-append, length-flat}
+use Rattle.packet.specs.Reading.{numbersAt}
+use Rattle.packet.specs.Columns.{column, columns}
+use Rattle.packet.proofs.Columns.{numbers-rows, fine-rows}
+use Rattle.packet.proofs.Loops.{lines-cons}
+use Rattle.reader.specs.Due.{passing, lesser, Judged}
+use Rattle.reader.specs.Taking.{ownAt}
+use Rattle.reader.proofs.Due.{Going, going-turn, going-last}
+use Rattle.reader.proofs.Taking.{length-own}
+
+-- ---- the first j lines, and one more
+module _ (T : List Line) (j : ℕ) (d t : Line) (h : j < length T) (e : t ≡ getD T j d) where
+  more : take (j + 1) T ≡ take j T ++ (t ∷ [])
+  more = ap (λ (n : ℕ). take n T) (add-one j) ∙ take-suc T j d h ∙ ap (λ (x : Line). take j T ++ (x ∷ [])) (sym e)
+
+  pub size-more : size (take (j + 1) T) ≡ size (take j T) + t .count * t .width
+  unfolding size
+  size-more = ap size more ∙ size-append (take j T) (t ∷ []) ∙ omega arith
+
+  pub need-more : need (take (j + 1) T) ≡ need (take j T) + own t
+  unfolding need
+  need-more = ap need more ∙ need-append (take j T) (t ∷ []) ∙ omega arith
+
+  numbers-more : (b : List ℕ) (p : ℕ) → numbersAt (take (j + 1) T) b p ≡ numbersAt (take j T) b p ++ ownAt t b (p + size (take j T))
+  unfolding flat decode
+  numbers-more b p = ap (λ (ts : List Line). numbersAt ts b p) more ∙ flat-append (take j T) (t ∷ []) (bits b) p ∙ ap (λ (l : List ℕ). numbersAt (take j T) b p ++ l) (append-nil (ownAt t b (p + size (take j T))))
+
+  -- the numbers of a column beside those of the columns before
+  pub column-turn : (b o o′ o″ : List ℕ) (p q i to w n s : ℕ) → q ≡ p + size (take j T) → to ≡ i + need (take j T) → need (take (j + 1) T) ≤ w
+      → o′ ≡ strips o i w n (λ (k : ℕ). numbersAt (take j T) b (p + k * s)) → o″ ≡ strips o′ to w n (λ (k : ℕ). ownAt t b (q + k * s))
+      → o″ ≡ strips o i w n (λ (k : ℕ). numbersAt (take (j + 1) T) b (p + k * s))
+  column-turn b o o′ o″ p q i to w n s eq et l f g =
+      let a = need (take j T) in
+      let F : ℕ → List ℕ = λ k. numbersAt (take j T) b (p + k * s) in
+      let G : ℕ → List ℕ = λ k. ownAt t b (q + k * s) in
+      g
+      ∙ ap₂ (λ (m : List ℕ) (x : ℕ). strips m x w n G) f et
+      ∙ strips-beside n F G o i a w (λ k m. length-flat (take j T) (bits b) (p + k * s)) (λ k m. omega (arith, length-own t b (q + k * s), need-more, l))
+      ∙ strips-same n (λ (k : ℕ). F k ++ G k) (λ (k : ℕ). numbersAt (take (j + 1) T) b (p + k * s)) o i w (λ k m. sym (numbers-more b (p + k * s) ∙ ap (λ (x : ℕ). F k ++ ownAt t b x) (omega arith)))
+
+  -- and what they are due
+  passes : (l : List ℕ) (q n s a : ℕ) → every n (λ (k : ℕ). lineOk a t (run l (q + k * s) (t .count) (t .width))) ≡ passing t (every n (λ (k : ℕ). inside (t .lo) (t .hi) (run l (q + k * s) (t .count) (t .width)))) a
+  passes l q n s a =
+      by-test (eqb (t .answer) a)
+      (λ x. every-same n _ _ (λ k m. if-yes _ true x) ∙ sym (if-yes _ true x))
+      (λ x. every-true n _ (λ k m. if-no _ true x) ∙ sym (if-no _ true x))
+
+  pub due-turn : (l : List ℕ) (p q w n s : ℕ) (good : Bool) (x r y : ℕ) → w ≡ t .count * t .width → good ≡ every n (λ (k : ℕ). inside (t .lo) (t .hi) (run l (q + k * s) (t .count) (t .width)))
+      → Going (λ (a : ℕ). every n (λ (k : ℕ). fine a T (decode T l (p + k * s)))) (λ (a : ℕ). every n (λ (k : ℕ). fine a (drop j T) (decode (drop j T) l (q + k * s)))) x
+      → Judged (passing t good) r → y ≡ lesser x r
+      → Going (λ (a : ℕ). every n (λ (k : ℕ). fine a T (decode T l (p + k * s)))) (λ (a : ℕ). every n (λ (k : ℕ). fine a (drop (j + 1) T) (decode (drop (j + 1) T) l (q + w + k * s)))) y
+  unfolding fine decode
+  due-turn l p q w n s good x r y ew eg g i ey =
+      going-turn _ _ (passing t good) _ x r y g i
+      (λ a.
+        every-same n _ _ (λ k m. rw (lines-cons T j d t h e))
+        ∙ every-and n (λ (k : ℕ). lineOk a t (run l (q + k * s) (t .count) (t .width))) (λ (k : ℕ). fine a (drop (j + 1) T) (decode (drop (j + 1) T) l (q + k * s + t .count * t .width)))
+        ∙ ap₂ (λ (u v : Bool). u && v) (passes l q n s a ∙ ap (λ (z : Bool). passing t z a) (sym eg)) (every-same n _ _ (λ k m. ap (λ (z : ℕ). fine a (drop (j + 1) T) (decode (drop (j + 1) T) l z)) (omega (arith, ew)))))
+      ey
+
+-- ---- where a line stands
+pub stands-at : (T : List Line) (j q : ℕ) (d t : Line) → j < length T → t ≡ getD T j d → columns q T ≡ true → column (q + size (take j T)) t ≡ true
+unfolding columns size
+stands-at [] j q d t h e c = absurd (omega arith)
+stands-at (u ∷ us) zero q d t h e c = ap₂ column (add-zero q) e ∙ and-both (column q u) (columns (q + u .count * u .width) us) c .0
+stands-at (u ∷ us) (suc j) q d t h e c =
+    let x : q + (u .count * u .width + size (take j us)) ≡ q + u .count * u .width + size (take j us) = omega arith in
+    ap (λ (y : ℕ). column y t) x ∙ stands-at us j (q + u .count * u .width) d t (omega arith) e (and-both (column q u) (columns (q + u .count * u .width) us) c .1)
+
+-- a byte's edge before a column changes nothing
+pub shifted : (p q : ℕ) (t : Line) → p % 8 ≡ 0 → column (p + q) t ≡ column q t
+shifted p q t h =
+    let a : (p + q) % 8 ≡ q % 8 = omega arith in
+    let c : (p + q + t .count * 4) % 8 ≡ (q + t .count * 4) % 8 = omega arith in
+    rw (a, c)
+
+-- ---- the beginning, the end, and one row
+strips-none : (n : ℕ) (f : ℕ → List ℕ) (l : List ℕ) (i w : ℕ) → ((r : ℕ) → f r ≡ []) → strips l i w n f ≡ l
+unfolding strips
+strips-none zero f l i w e = refl
+strips-none (suc n) f l i w e = ap (sets (strips l i w n f) (i + n * w)) (e n) ∙ strips-none n f l i w e
+
+pub column-first : (T : List Line) (b o : List ℕ) (p i w n s : ℕ) → o ≡ strips o i w n (λ (k : ℕ). numbersAt (take 0 T) b (p + k * s))
+unfolding flat decode
+column-first T b o p i w n s = sym (strips-none n _ o i w (λ r. refl))
+
+pub due-last : (T : List Line) (j : ℕ) → length T ≤ j → (l : List ℕ) (p q n s x : ℕ)
+    → Going (λ (a : ℕ). every n (λ (k : ℕ). fine a T (decode T l (p + k * s)))) (λ (a : ℕ). every n (λ (k : ℕ). fine a (drop j T) (decode (drop j T) l (q + k * s)))) x
+    → Judged (λ (a : ℕ). every n (λ (k : ℕ). fine a T (decode T l (p + k * s)))) x
+unfolding fine decode
+due-last T j h l p q n s x g = going-last _ _ x g (λ a. every-true n _ (λ k m. rw (drop-of-length-le T h)))
