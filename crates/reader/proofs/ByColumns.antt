@@ -1,25 +1,24 @@
 -- Lines taken by columns, a line in all of its rows and then the next: what a turn adds, and where the line stands. Assumes nothing.
 use mathlib.Core.Path.{_≡_, refl, sym, ap, ap₂, _∙_}
-use mathlib.Core.Bool.{Bool, true, false, cond, _&&_}
+use mathlib.Core.Bool.{Bool, true, _&&_}
 use mathlib.Core.List.{List, [], _∷_, _++_, append-nil}
 use Prim.Native.Nat.{ℕ, zero, suc, _+_, _*_, _%_, _<_, _≤_}
-use native.Mathlib.Nat.{zero-mul, add-zero}
+use native.Mathlib.Nat.{add-zero, zero-add}
 use native.Mathlib.Numerals.{add-one}
 use native.Mathlib.Omega.{arith}
-use lib.ListN.{length, getD, take, drop, drop-of-length-le}
+use lib.ListN.{length, getD, take, drop, drop-of-length-le, take-append-drop}
 use lib.Seq.{take-suc, sets}
 use lib.Dec.{eqb}
 use Rattle.laws.specs.Bits.{run, bits}
-use Rattle.laws.specs.Strips.{strips, joined, every}
+use Rattle.laws.specs.Strips.{strips, every}
 use Rattle.laws.proofs.Cases.{if-yes, if-no, and-both}
 use Rattle.laws.proofs.Elements.{by-test}
-use Rattle.laws.proofs.Strips.{strips-beside, strips-same, strips-whole, every-and, every-same, every-true}
+use Rattle.laws.proofs.Strips.{strips-beside, strips-same, every-and, every-same, every-true}
 use Rattle.format.specs.declared.Line.{Line}
-use Rattle.format.specs.Format.{times, own, size, need, inside, decode, flat, fine, lineOk}
+use Rattle.format.specs.Format.{own, size, need, inside, decode, flat, fine, lineOk}
 use Rattle.format.proofs.Tables.{size-append, need-append, flat-append, length-flat}
 use Rattle.packet.specs.Reading.{numbersAt}
 use Rattle.packet.specs.Columns.{column, columns}
-use Rattle.packet.proofs.Columns.{numbers-rows, fine-rows}
 use Rattle.packet.proofs.Loops.{lines-cons}
 use Rattle.reader.specs.Due.{passing, lesser, Judged}
 use Rattle.reader.specs.Taking.{ownAt}
@@ -76,6 +75,13 @@ module _ (T : List Line) (j : ℕ) (d t : Line) (h : j < length T) (e : t ≡ ge
         ∙ ap₂ (λ (u v : Bool). u && v) (passes l q n s a ∙ ap (λ (z : Bool). passing t z a) (sym eg)) (every-same n _ _ (λ k m. ap (λ (z : ℕ). fine a (drop (j + 1) T) (decode (drop (j + 1) T) l z)) (omega (arith, ew)))))
       ey
 
+-- the first lines have no more than all
+pub size-within : (T : List Line) (j : ℕ) → size (take j T) ≤ size T
+size-within T j = omega (arith, sym (ap size (take-append-drop j T)) ∙ size-append (take j T) (drop j T))
+
+pub need-within : (T : List Line) (j : ℕ) → need (take j T) ≤ need T
+need-within T j = omega (arith, sym (ap need (take-append-drop j T)) ∙ need-append (take j T) (drop j T))
+
 -- ---- where a line stands
 pub stands-at : (T : List Line) (j q : ℕ) (d t : Line) → j < length T → t ≡ getD T j d → columns q T ≡ true → column (q + size (take j T)) t ≡ true
 unfolding columns size
@@ -86,11 +92,14 @@ stands-at (u ∷ us) (suc j) q d t h e c =
     ap (λ (y : ℕ). column y t) x ∙ stands-at us j (q + u .count * u .width) d t (omega arith) e (and-both (column q u) (columns (q + u .count * u .width) us) c .1)
 
 -- a byte's edge before a column changes nothing
-pub shifted : (p q : ℕ) (t : Line) → p % 8 ≡ 0 → column (p + q) t ≡ column q t
+shifted : (p q : ℕ) (t : Line) → p % 8 ≡ 0 → column (p + q) t ≡ column q t
 shifted p q t h =
     let a : (p + q) % 8 ≡ q % 8 = omega arith in
     let c : (p + q + t .count * 4) % 8 ≡ (q + t .count * 4) % 8 = omega arith in
     rw (a, c)
+
+pub edge-at : (T : List Line) (j p q : ℕ) (d t : Line) → j < length T → t ≡ getD T j d → columns 0 T ≡ true → p % 8 ≡ 0 → q ≡ p + size (take j T) → column q t ≡ true
+edge-at T j p q d t h e c s f = ap (λ (x : ℕ). column x t) f ∙ shifted p (size (take j T)) t s ∙ ap (λ (x : ℕ). column x t) (sym (zero-add (size (take j T)))) ∙ stands-at T j 0 d t h e c
 
 -- ---- the beginning, the end, and one row
 strips-none : (n : ℕ) (f : ℕ → List ℕ) (l : List ℕ) (i w : ℕ) → ((r : ℕ) → f r ≡ []) → strips l i w n f ≡ l

@@ -18,7 +18,8 @@ use Rattle.laws.proofs.Cases.{and-both}
 use Rattle.laws.proofs.Elements.{by-test}
 use Rattle.laws.proofs.Writes.{sets-append, from-front, join}
 use Rattle.format.specs.declared.Line.{Line}
-use Rattle.format.specs.Format.{own, size, need, decode, flat}
+use Rattle.format.specs.Format.{own, size, need, decode, flat, sound}
+use Rattle.format.proofs.Sound.{sound-is}
 use Rattle.format.proofs.Tables.{flat-append, length-flat}
 use Rattle.packet.specs.declared.Kind.{Kind}
 use Rattle.packet.specs.declared.Content.{Content}
@@ -44,6 +45,13 @@ length-own t b p = part (t .given) refl
     part : (x : Bool) → t .given ≡ x → length (ownAt t b p) ≡ own t
     part true e = rw e (length-run (bits b) p (t .count) (t .width))
     part false e = rw e
+
+pub own-few : (t : Line) → sound t ≡ true → own t ≤ 64
+own-few t s = part (t .given) refl
+  where
+    part : (x : Bool) → t .given ≡ x → own t ≤ 64
+    part true e = rw e (sound-is t s .few)
+    part false e = rw e (omega arith)
 
 module _ (T : List Line) (j : ℕ) (d t : Line) (h : j < length T) (e : t ≡ getD T j d) where
   pub taken-turn : (b o o″ whole : List ℕ) (q i r : ℕ) → whole ≡ sets o i (numbersAt (drop j T) b q) → o″ ≡ sets o i (ownAt t b q) → r ≡ i + own t

@@ -25,10 +25,6 @@ passing t x k = cond (eqb (t .answer) k) x true
 abbrev pub lesser : ℕ → ℕ → ℕ
 lesser a b = cond (ltb b a) b a
 
--- the answer of a packet whose codes and content are due d, and whose certificate's digits are such or not, and whose day is none or one
-abbrev pub lineAnswer : ℕ → Bool → Bool → ℕ
-lineAnswer d digits day = cond (eqb (cond digits d (lesser d 25)) 255) (cond day 27 0) (cond digits d (lesser d 25))
-
 -- r is the least of these numbers whose test fails, and 255 where none does
 pub record Judged (passes : ℕ → Bool) (r : ℕ) : Type 0 where
   pub fine : (k : ℕ) → asked k ≡ true → k < r → passes k ≡ true

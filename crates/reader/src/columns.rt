@@ -1,6 +1,7 @@
 // Lines of a table over the bits of a packet, taken and judged at once: a line in all of its rows, then the next.
 ghost use mathlib.Core.Path.{_≡_};
 ghost use mathlib.Core.Bool.{true, cond};
+ghost use mathlib.Core.List.{[], _∷_};
 ghost use Prim.Native.Nat.{ℕ, _+_, _-_, _*_, _/_, _<_, _≤_};
 ghost use lib.ListN.{length, set, take, drop};
 ghost use lib.Seq.{sets};
@@ -206,16 +207,23 @@ fn put(out: &mut [u32], i: usize, x: u32)
     }
 }
 
+// The number of a line, to out at i if it is given.
+fn keep(t: Line, x: u32, out: &mut [u32], i: usize)
+    ensures { λ _. ⌜ now (out .exit) ≡ sets (now (out .entry)) i (cond (t .given) (x ∷ []) []) ⌝ }
+{
+    let given = t.given;
+    if given {
+        put(out, i, x);
+    }
+}
+
 // A line of one number from bit p on, to out at i if it is given; whether it is as the line says.
 fn take_number(t: Line, b: &[u8], p: usize, out: &mut [u32], i: usize) -> bool
     requires { ⌜ (t .count ≡ 1) × (t .width ≤ 32) × (p < 65536) ⌝ }
     ensures { λ r. ⌜ (now (out .exit) ≡ sets (now (out .entry)) i (ownAt t (now (b .entry)) p)) × (r ≡ inside (t .lo) (t .hi) (run (bits (now (b .entry))) p (t .count) (t .width))) ⌝ }
 {
     let x = format::field(b, p, t.width);
-    let given = t.given;
-    if given {
-        put(out, i, x);
-    }
+    keep(t, x, out, i);
     if x < t.lo { false } else { x <= t.hi }
 }
 

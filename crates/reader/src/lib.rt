@@ -68,8 +68,9 @@ fn lines_told(
     let c = parts::take_content(f, s, z, k, b, 24 + 96 * n, &mut digits, entries);
     let good = columns::take_digits(b, b.len() - 64, 12, &mut certificate, 0);
     let content = c.content;
-    let d = columns::least(first, c.due);
-    let a = refusals::lines_answer(d, good, packet::no_such_day(content));
+    let frame = columns::least(first, refusals::digits_due(good));
+    let d = columns::least(frame, c.due);
+    let a = refusals::lines_answer(d, packet::no_such_day(content));
     if a != 0 {
         return refused(a);
     }

@@ -1,11 +1,9 @@
 // What is wrong with a packet: the answers 20, 23, 26, 24, 25 and 27, in that order.
 ghost use mathlib.Core.Path.{_≡_};
-ghost use mathlib.Core.Bool.{not};
+ghost use mathlib.Core.Bool.{not, cond};
 ghost use Prim.Native.Nat.{_+_, _*_, _<_, _≤_};
 ghost use lib.Dec.{eqb};
 ghost use Rattle.packet.specs.Reading.{unknownBy, sizeBad};
-ghost use Rattle.reader.specs.Due.{lineAnswer};
-use crate::columns;
 use crate::parts;
 use packet::Counting;
 use packet::Sizes;
@@ -47,13 +45,19 @@ pub(crate) fn length_bad(z: Sizes, k: usize, m: usize) -> bool
     z.lead + k * z.each + z.rest != 8 * m
 }
 
-// And then 24, 25 or 27: d is what the lines of codes and content are due.
-pub(crate) fn lines_answer(d: u8, digits: bool, day: bool) -> u8
-    ensures { λ r. ⌜ r ≡ lineAnswer d digits day ⌝ }
+// 25: digits that are none; 255 where they all are.
+pub(crate) fn digits_due(good: bool) -> u8
+    ensures { λ r. ⌜ r ≡ cond good 255 25 ⌝ }
 {
-    let least = if digits { d } else { columns::least(d, 25) };
-    if least != 255 {
-        return least;
+    if good { 255 } else { 25 }
+}
+
+// And then 24, 25 or 27: d is what the lines are due.
+pub(crate) fn lines_answer(d: u8, day: bool) -> u8
+    ensures { λ r. ⌜ r ≡ cond (eqb d 255) (cond day 27 0) d ⌝ }
+{
+    if d != 255 {
+        return d;
     }
     if day { 27 } else { 0 }
 }
