@@ -2,3 +2,4 @@ pub mod Rows
 pub mod Taking
 pub mod Whole
 pub mod Due
+pub mod Leaves

@@ -1,0 +1,103 @@
+-- The loops over half bytes, bytes and rows: a turn of each, and flags that a test puts down. Assumes nothing.
+use mathlib.Core.Path.{_≡_, refl, sym, ap, ap₂, _∙_}
+use mathlib.Core.Bool.{Bool, true, false, _&&_}
+use mathlib.Core.List.{List, [], _∷_, _++_, append-nil}
+use Prim.Native.Nat.{ℕ, zero, suc, _+_, _-_, _*_, _/_, _%_, _<_, _≤_}
+use native.Mathlib.Nat.{suc-mul, mul-assoc}
+use native.Mathlib.Numerals.{add-one}
+use native.Mathlib.Omega.{arith}
+use lib.ListN.{length, getD, getD-replicate, drop, drop-of-length-le}
+use lib.Seq.{sets}
+use lib.Dec.{leb}
+use borrow.Author.Tests.{le-leb}
+use Rattle.laws.specs.Bits.{at, run, bits}
+use Rattle.laws.specs.Strips.{strips, every}
+use Rattle.laws.proofs.Writes.{from-front}
+use Rattle.format.specs.Format.{inside}
+use Rattle.packet.specs.Reading.{zeros}
+use Rattle.format.proofs.Leaves.{run-done}
+use Rattle.format.proofs.Halves.{byte-at, pairs-step}
+
+-- ---- a flag that a test puts down, or leaves
+pub put-down : (h g t : Bool) → t ≡ false → h ≡ false → h ≡ (g && t)
+put-down h true t e f = f ∙ sym e
+put-down h false t e f = f
+
+pub left : (h g t : Bool) → t ≡ true → h ≡ g → h ≡ (g && t)
+left h true t e f = f ∙ sym e
+left h false t e f = f
+
+-- a number that is tested by its two ends
+pub both-ends : (g h l : Bool) (lo hi x : ℕ) → h ≡ (g && leb lo x) → l ≡ (h && leb x hi) → l ≡ (g && inside lo hi (x ∷ []))
+unfolding inside
+both-ends g h l lo hi x e f = f ∙ ap (λ (y : Bool). y && leb x hi) e ∙ turned g (leb lo x) (leb x hi)
+  where
+    turned : (g a b : Bool) → ((g && a) && b) ≡ (g && ((a && b) && true))
+    turned true true true = refl
+    turned true true false = refl
+    turned true false b = refl
+    turned false a b = refl
+
+-- ---- the two halves of a byte
+pub pairs-judged : (b : List ℕ) (all g h l : Bool) (k m j x : ℕ) → j < m → x < 256 → x ≡ getD b (k + j) 0
+    → all ≡ (g && inside 0 9 (run (bits b) ((k + j) * 8) (2 * m - 2 * j) 4)) → h ≡ (g && leb (x / 16) 9) → l ≡ (h && leb (x % 16) 9)
+    → all ≡ (l && inside 0 9 (run (bits b) ((k + (j + 1)) * 8) (2 * m - 2 * (j + 1)) 4))
+unfolding inside
+pairs-judged b all g h l k m j x i s e f u v =
+    let r = inside 0 9 (run (bits b) ((k + (j + 1)) * 8) (2 * m - 2 * (j + 1)) 4) in
+    f ∙ ap (λ (y : List ℕ). g && inside 0 9 y) (pairs-step b k m j x i s e)
+    ∙ rw (le-leb 0 (x / 16) (omega arith), le-leb 0 (x % 16) (omega arith)) (turned g (leb (x / 16) 9) (leb (x % 16) 9) r)
+    ∙ ap (λ (y : Bool). y && r) (sym (v ∙ ap (λ (y : Bool). y && leb (x % 16) 9) u))
+  where
+    turned : (g a b c : Bool) → (g && (a && (b && c))) ≡ (((g && a) && b) && c)
+    turned true true b c = refl
+    turned true false b c = refl
+    turned false a b c = refl
+
+pub flag-done : (l : List ℕ) (all g : Bool) (lo hi q n w j : ℕ) → n ≤ j → all ≡ (g && inside lo hi (run l q (n - j) w)) → g ≡ all
+unfolding inside
+flag-done l all g lo hi q n w j h e = sym (e ∙ ap (λ (r : List ℕ). g && inside lo hi r) (run-done l q n w j h) ∙ and-true g)
+  where
+    and-true : (x : Bool) → (x && true) ≡ x
+    and-true true = refl
+    and-true false = refl
+
+-- ---- a row more
+pub next-row : (j w : ℕ) → (j + 1) * w ≡ j * w + w
+next-row j w = rw (add-one j) (suc-mul j w)
+
+pub strips-turn : (l o u v : List ℕ) (i w j to : ℕ) (f : ℕ → List ℕ) → o ≡ strips l i w j f → to ≡ i + j * w → u ≡ sets o to v → v ≡ f j → u ≡ strips l i w (j + 1) f
+unfolding strips
+strips-turn l o u v i w j to f e t g h = rw (add-one j) (g ∙ rw (e, t, h))
+
+pub every-turn : (g h : Bool) (j : ℕ) (f : ℕ → Bool) (t : Bool) → g ≡ every j f → h ≡ (g && t) → t ≡ f j → h ≡ every (j + 1) f
+unfolding every
+every-turn g h j f t e u v = rw (add-one j) (u ∙ rw (e, v))
+
+-- ---- the piece of a row
+pub octet-piece : (b : List ℕ) (k s j u x : ℕ) → x < 256 → x ≡ getD b u 0 → u ≡ k + j * s → x ∷ [] ≡ run (bits b) (k * 8 + j * (s * 8)) 1 8
+unfolding run
+octet-piece b k s j u x h e f =
+    let p : u * 8 ≡ k * 8 + j * (s * 8) = omega (arith, f, mul-assoc j s 8) in
+    ap (λ (y : ℕ). y ∷ []) (byte-at b u x h e ∙ ap (λ (q : ℕ). at (bits b) q 8) p)
+
+pub single-piece : (l : List ℕ) (p q c w x : ℕ) → c ≡ 1 → q ≡ p → x ≡ at l q w → x ∷ [] ≡ run l p c w
+unfolding run
+single-piece l p q c w x e f g = rw (e, ← f, ← g)
+
+pub digits-place : (e c s j u : ℕ) → c ≤ 2 * e → u ≡ e + j * s → u * 8 - c * 4 ≡ e * 8 - c * 4 + j * (s * 8)
+digits-place e c s j u h f = omega (arith, mul-assoc j s 8)
+
+-- ---- as many numbers as there are, from the front
+pub over-all : (v l : List ℕ) → length v ≡ length l → sets l 0 v ≡ v
+over-all v l e = from-front v l (omega arith) ∙ ap (λ (r : List ℕ). v ++ r) (drop-of-length-le l {i = length v} (omega arith)) ∙ append-nil v
+
+pub zeros-at : (n i : ℕ) → i < n → getD (zeros n) i 0 ≡ 0
+unfolding zeros
+zeros-at n i h = getD-replicate n i 0 0 h
+
+-- pieces that are empty
+pub strips-none : (n : ℕ) (f : ℕ → List ℕ) (l : List ℕ) (i w : ℕ) → ((r : ℕ) → f r ≡ []) → strips l i w n f ≡ l
+unfolding strips
+strips-none zero f l i w e = refl
+strips-none (suc n) f l i w e = ap (sets (strips l i w n f) (i + n * w)) (e n) ∙ strips-none n f l i w e
