@@ -16,7 +16,7 @@ use Rattle.laws.proofs.Writes.{from-front}
 use Rattle.format.specs.Format.{inside}
 use Rattle.packet.specs.Reading.{zeros}
 use Rattle.format.proofs.Leaves.{run-done}
-use Rattle.format.proofs.Halves.{byte-at, pairs-step}
+use Rattle.format.proofs.Halves.{byte-at, low-half, pairs-step}
 
 -- ---- a flag that a test puts down, or leaves
 pub put-down : (h g t : Bool) → t ≡ false → h ≡ false → h ≡ (g && t)
@@ -84,6 +84,27 @@ octet-piece b k s j u x h e f =
 pub single-piece : (l : List ℕ) (p q c w x : ℕ) → c ≡ 1 → q ≡ p → x ≡ at l q w → x ∷ [] ≡ run l p c w
 unfolding run
 single-piece l p q c w x e f g = rw (e, ← f, ← g)
+
+-- digits that end with byte e: where they are odd one by itself, then two a byte
+pub digits-even : (l : List ℕ) (e c : ℕ) → c ≤ 2 * e → c % 2 ≡ 0 → run l ((e - c / 2) * 8) (2 * (c / 2)) 4 ≡ run l (e * 8 - c * 4) c 4
+digits-even l e c h i =
+    let p : (e - c / 2) * 8 ≡ e * 8 - c * 4 = omega arith in
+    let n : 2 * (c / 2) ≡ c = omega arith in
+    ap₂ (λ (u v : ℕ). run l u v 4) p n
+
+pub digits-odd : (b : List ℕ) (e c x : ℕ) → c ≤ 2 * e → c % 2 ≡ 1 → x ≡ getD b (e - c / 2 - 1) 0 → x % 16 ∷ run (bits b) ((e - c / 2) * 8) (2 * (c / 2)) 4 ≡ run (bits b) (e * 8 - c * 4) c 4
+unfolding run
+digits-odd b e c x h i g =
+    let p : e * 8 - c * 4 ≡ (e - c / 2 - 1) * 8 + 4 = omega arith in
+    let q : (e - c / 2 - 1) * 8 + 4 + 4 ≡ (e - c / 2) * 8 = omega arith in
+    let n : c ≡ suc (2 * (c / 2)) = omega arith in
+    sym
+    (ap₂ (λ (u v : ℕ). run (bits b) u v 4) p n
+    ∙ ap₂ (λ (u v : ℕ). u ∷ run (bits b) v (2 * (c / 2)) 4) (sym (low-half b (e - c / 2 - 1) x g)) q)
+
+pub first-digit : (x : ℕ) (xs : List ℕ) → inside 0 9 (x ∷ xs) ≡ (leb x 9 && inside 0 9 xs)
+unfolding inside
+first-digit x xs = rw (le-leb 0 x (omega arith))
 
 pub digits-place : (e c s j u : ℕ) → c ≤ 2 * e → u ≡ e + j * s → u * 8 - c * 4 ≡ e * 8 - c * 4 + j * (s * 8)
 digits-place e c s j u h f = omega (arith, mul-assoc j s 8)
