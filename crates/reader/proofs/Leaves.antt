@@ -1,18 +1,19 @@
 -- The loops over half bytes, bytes and rows: a turn of each, and flags that a test puts down. Assumes nothing.
 use mathlib.Core.Path.{_≡_, refl, sym, ap, ap₂, _∙_}
 use mathlib.Core.Bool.{Bool, true, false, cond, _&&_}
+use mathlib.Core.Logic.{_⊎_, ⊎-elim}
 use mathlib.Core.List.{List, [], _∷_, _++_, append-nil}
 use Prim.Native.Nat.{ℕ, zero, suc, _+_, _-_, _*_, _/_, _%_, _<_, _≤_}
 use native.Mathlib.Nat.{suc-mul, mul-assoc}
 use native.Mathlib.Numerals.{add-one}
 use native.Mathlib.Omega.{arith}
-use lib.ListN.{length, getD, getD-replicate, drop, drop-of-length-le}
+use lib.ListN.{length, getD, getD-replicate, set, drop-of-length-le}
 use lib.Seq.{sets}
 use lib.Dec.{leb, eqb}
-use borrow.Author.Tests.{le-leb, leb-true, eq-eqb, ne-eqb, eqb-true}
+use borrow.Author.Tests.{le-leb, lt-leb, leb-true, eq-eqb, ne-eqb, eqb-true}
 use Rattle.laws.specs.Bits.{at, run, bits}
 use Rattle.laws.specs.Strips.{strips, every}
-use Rattle.laws.proofs.Cases.{if-yes, if-no, and-both}
+use Rattle.laws.proofs.Cases.{if-yes, if-no, and-yes, and-no, and-both}
 use Rattle.laws.proofs.Strips.{strips-same, every-same}
 use Rattle.laws.proofs.Writes.{from-front}
 use Rattle.format.specs.declared.Line.{Line}
@@ -25,13 +26,9 @@ use Rattle.format.proofs.Leaves.{run-done}
 use Rattle.format.proofs.Halves.{byte-at, low-half, pairs-step}
 
 -- ---- a flag that a test puts down, or leaves
-pub put-down : (h g t : Bool) → t ≡ false → h ≡ false → h ≡ (g && t)
-put-down h true t e f = f ∙ sym e
-put-down h false t e f = f
-
-pub left : (h g t : Bool) → t ≡ true → h ≡ g → h ≡ (g && t)
-left h true t e f = f ∙ sym e
-left h false t e f = f
+pub flagged : {A B : Type 0} (h g t : Bool) → (A → t ≡ false) → (B → t ≡ true) → (A × (h ≡ false)) ⊎ (B × (h ≡ g)) → h ≡ (g && t)
+flagged h true t f e w = ⊎-elim (λ u. u .1 ∙ sym (f (u .0))) (λ u. u .1 ∙ sym (e (u .0))) w
+flagged h false t f e w = ⊎-elim (λ u. u .1) (λ u. u .1) w
 
 -- a number that is tested by its two ends
 pub both-ends : (g h l : Bool) (lo hi x : ℕ) → h ≡ (g && leb lo x) → l ≡ (h && leb x hi) → l ≡ (g && inside lo hi (x ∷ []))
@@ -98,19 +95,32 @@ digits-even l e c h i =
     let n : 2 * (c / 2) ≡ c = omega arith in
     ap₂ (λ (u v : ℕ). run l u v 4) p n
 
-pub digits-odd : (b : List ℕ) (e c x : ℕ) → c ≤ 2 * e → c % 2 ≡ 1 → x ≡ getD b (e - c / 2 - 1) 0 → x % 16 ∷ run (bits b) ((e - c / 2) * 8) (2 * (c / 2)) 4 ≡ run (bits b) (e * 8 - c * 4) c 4
-unfolding run
-digits-odd b e c x h i g =
-    let p : e * 8 - c * 4 ≡ (e - c / 2 - 1) * 8 + 4 = omega arith in
-    let q : (e - c / 2 - 1) * 8 + 4 + 4 ≡ (e - c / 2) * 8 = omega arith in
-    let n : c ≡ suc (2 * (c / 2)) = omega arith in
-    sym
-    (ap₂ (λ (u v : ℕ). run (bits b) u v 4) p n
-    ∙ ap₂ (λ (u v : ℕ). u ∷ run (bits b) v (2 * (c / 2)) 4) (sym (low-half b (e - c / 2 - 1) x g)) q)
-
-pub first-digit : (x : ℕ) (xs : List ℕ) → inside 0 9 (x ∷ xs) ≡ (leb x 9 && inside 0 9 xs)
+first-digit : (x : ℕ) (xs : List ℕ) → inside 0 9 (x ∷ xs) ≡ (leb x 9 && inside 0 9 xs)
 unfolding inside
 first-digit x xs = rw (le-leb 0 x (omega arith))
+
+module _ (b : List ℕ) (e c x : ℕ) (h : c ≤ 2 * e) (i : c % 2 ≡ 1) (g : x ≡ getD b (e - c / 2 - 1) 0) where
+  digits-odd : x % 16 ∷ run (bits b) ((e - c / 2) * 8) (2 * (c / 2)) 4 ≡ run (bits b) (e * 8 - c * 4) c 4
+  unfolding run
+  digits-odd =
+      let p : e * 8 - c * 4 ≡ (e - c / 2 - 1) * 8 + 4 = omega arith in
+      let q : (e - c / 2 - 1) * 8 + 4 + 4 ≡ (e - c / 2) * 8 = omega arith in
+      let n : c ≡ suc (2 * (c / 2)) = omega arith in
+      sym
+      (ap₂ (λ (u v : ℕ). run (bits b) u v 4) p n
+      ∙ ap₂ (λ (u v : ℕ). u ∷ run (bits b) v (2 * (c / 2)) 4) (sym (low-half b (e - c / 2 - 1) x g)) q)
+
+  pub odd-stored : (o u : List ℕ) (to : ℕ) → u ≡ sets (set o to (x % 16)) (to + 1) (run (bits b) ((e - c / 2) * 8) (2 * (c / 2)) 4) → u ≡ sets o to (run (bits b) (e * 8 - c * 4) c 4)
+  odd-stored o u to f = f ∙ ap (λ (n : ℕ). sets (set o to (x % 16)) n (run (bits b) ((e - c / 2) * 8) (2 * (c / 2)) 4)) (add-one to) ∙ ap (sets o to) digits-odd
+
+  odd-first : (leb (x % 16) 9 && inside 0 9 (run (bits b) ((e - c / 2) * 8) (2 * (c / 2)) 4)) ≡ inside 0 9 (run (bits b) (e * 8 - c * 4) c 4)
+  odd-first = sym (first-digit (x % 16) (run (bits b) ((e - c / 2) * 8) (2 * (c / 2)) 4)) ∙ ap (inside 0 9) digits-odd
+
+  pub odd-over : 9 < x % 16 → false ≡ inside 0 9 (run (bits b) (e * 8 - c * 4) c 4)
+  odd-over f = sym (and-no _ (lt-leb (x % 16) 9 f)) ∙ odd-first
+
+  pub odd-fine : (r : Bool) → x % 16 ≤ 9 → r ≡ inside 0 9 (run (bits b) ((e - c / 2) * 8) (2 * (c / 2)) 4) → r ≡ inside 0 9 (run (bits b) (e * 8 - c * 4) c 4)
+  odd-fine r f k = k ∙ sym (and-yes _ (le-leb (x % 16) 9 f)) ∙ odd-first
 
 pub digits-place : (e c s j u : ℕ) → c ≤ 2 * e → u ≡ e + j * s → u * 8 - c * 4 ≡ e * 8 - c * 4 + j * (s * 8)
 digits-place e c s j u h f = omega (arith, mul-assoc j s 8)

@@ -1,7 +1,6 @@
 -- `reader::columns::digits_column` meets its contract. Assumes nothing.
 use mathlib.Core.Path.{_≡_, refl, ap, _∙_}
 use mathlib.Core.Bool.{_&&_}
-use mathlib.Core.Logic.{⊎-elim}
 use mathlib.Core.List.{List}
 use Prim.Native.Nat.{ℕ, _≤_, _-_, _+_, _*_}
 use native.Mathlib.Omega.{arith}
@@ -13,7 +12,7 @@ use Rattle.laws.specs.Bits.{bits, run}
 use Rattle.laws.specs.Strips.{strips, every}
 use Rattle.laws.proofs.Strips.{row-below}
 use Rattle.format.specs.Format.{inside}
-use Rattle.reader.proofs.Leaves.{put-down, left, next-row, strips-turn, every-turn, digits-place}
+use Rattle.reader.proofs.Leaves.{flagged, next-row, strips-turn, every-turn, digits-place}
 use Rattle.reader.proofs.columns.digits_column.Statement.{statement}
 use Rattle.reader.proofs.columns.digits_column.Tie as tie
 
@@ -58,7 +57,7 @@ loop-again c =
     let v = run (bits (now (a .b))) (k .at * 8 - a .c * 4) (a .c) 4 in
     let P : ℕ → List ℕ = λ r. run (bits (now (a .b))) (a .e * 8 - a .c * 4 + r * (a .s * 8)) (a .c) 4 in
     let piece : v ≡ P (k .j) = ap (λ (q : ℕ). run (bits (now (a .b))) q (a .c) 4) (digits-place (a .e) (a .c) (a .s) (k .j) (k .at) (c .before .before .before .before .before .before .before .before .before .pre .enough) (k .inv .1)) in
-    let flag : c .if1 .good ≡ (k .good && here) = ⊎-elim (λ w. put-down _ (k .good) _ (not-true here (w .0 .taken)) (w .1)) (λ w. left _ (k .good) _ (not-false here (w .0 .left)) (w .1)) (c .if1 .came) in (
+    let flag : c .if1 .good ≡ (k .good && here) = flagged _ (k .good) _ (λ w. not-true here (w .taken)) (λ w. not-false here (w .left)) (c .if1 .came) in (
       omega arith,
       omega (arith, k .inv .1, next-row (k .j) (a .s)),
       omega (arith, k .inv .2, next-row (k .j) (a .w)),

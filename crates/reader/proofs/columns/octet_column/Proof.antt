@@ -1,7 +1,6 @@
 -- `reader::columns::octet_column` meets its contract. Assumes nothing.
-use mathlib.Core.Path.{_≡_, refl, sym, ap, _∙_}
-use mathlib.Core.Bool.{Bool, _&&_}
-use mathlib.Core.Logic.{⊎-elim}
+use mathlib.Core.Path.{_≡_, refl, ap, _∙_}
+use mathlib.Core.Bool.{_&&_}
 use mathlib.Core.List.{List, [], _∷_}
 use Prim.Native.Nat.{ℕ, _<_, _≤_, _-_, _+_, _*_}
 use native.Mathlib.Omega.{arith}
@@ -14,7 +13,7 @@ use Rattle.laws.specs.Bits.{bits, run}
 use Rattle.laws.specs.Strips.{strips, every}
 use Rattle.laws.proofs.Strips.{row-below}
 use Rattle.format.specs.Format.{inside}
-use Rattle.reader.proofs.Leaves.{put-down, left, both-ends, next-row, strips-turn, every-turn, octet-piece}
+use Rattle.reader.proofs.Leaves.{flagged, both-ends, next-row, strips-turn, every-turn, octet-piece}
 use Rattle.reader.proofs.columns.octet_column.Statement.{statement}
 use Rattle.reader.proofs.columns.octet_column.Tie as tie
 
@@ -59,8 +58,8 @@ loop-again c =
     let small : x < 256 = omega (arith, c .before .before .shared-slice-known .given (k .at)) in
     let P : ℕ → List ℕ = λ r. run (bits B) (a .k * 8 + r * (a .s * 8)) 1 8 in
     let piece : x ∷ [] ≡ P (k .j) = octet-piece B (a .k) (a .s) (k .j) (k .at) x small refl (k .inv .1) in
-    let low : c .before .if1 .good ≡ (k .good && leb (a .lo) x) = ⊎-elim (λ w. put-down _ (k .good) _ (lt-leb (a .lo) x (w .0 .taken)) (w .1)) (λ w. left _ (k .good) _ (le-leb (a .lo) x (w .0 .left)) (w .1)) (c .before .if1 .came) in
-    let high : c .if2 .good ≡ (c .before .if1 .good && leb x (a .hi)) = ⊎-elim (λ w. put-down _ (c .before .if1 .good) _ (lt-leb x (a .hi) (w .0 .taken)) (w .1)) (λ w. left _ (c .before .if1 .good) _ (le-leb x (a .hi) (w .0 .left)) (w .1)) (c .if2 .came) in (
+    let low : c .before .if1 .good ≡ (k .good && leb (a .lo) x) = flagged _ (k .good) _ (λ w. lt-leb (a .lo) x (w .taken)) (λ w. le-leb (a .lo) x (w .left)) (c .before .if1 .came) in
+    let high : c .if2 .good ≡ (c .before .if1 .good && leb x (a .hi)) = flagged _ (c .before .if1 .good) _ (λ w. lt-leb x (a .hi) (w .taken)) (λ w. le-leb x (a .hi) (w .left)) (c .if2 .came) in (
       omega arith,
       omega (arith, next-row (k .j) (a .s)),
       omega (arith, next-row (k .j) (a .w)),

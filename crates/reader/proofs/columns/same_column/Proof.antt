@@ -1,7 +1,6 @@
 -- `reader::columns::same_column` meets its contract. Assumes nothing.
 use mathlib.Core.Path.{_≡_, refl, ap, _∙_}
 use mathlib.Core.Bool.{_&&_}
-use mathlib.Core.Logic.{⊎-elim}
 use mathlib.Core.List.{List, [], _∷_}
 use Prim.Native.Nat.{ℕ, _<_, _≤_, _-_, _+_, _*_}
 use native.Mathlib.Omega.{arith}
@@ -15,7 +14,7 @@ use Rattle.laws.proofs.Cases.{if-yes}
 use Rattle.laws.proofs.Strips.{row-below}
 use Rattle.format.specs.Format.{inside}
 use Rattle.format.proofs.Leaves.{reached}
-use Rattle.reader.proofs.Leaves.{put-down, left, both-ends, next-row, every-turn, single-piece}
+use Rattle.reader.proofs.Leaves.{flagged, both-ends, next-row, every-turn, single-piece}
 use Rattle.reader.proofs.columns.same_column.Statement.{statement}
 use Rattle.reader.proofs.columns.same_column.Tie as tie
 
@@ -58,8 +57,8 @@ loop-again c =
     let there : k .q < 65536 = omega (arith, c .before .before .before .before .before .before .before .before .pre .2, k .inv .1, row-below (k .j) (a .n) (a .s * 8) (c .before .before .before .before .before .loop-test .taken)) in
     let e : x ≡ at (bits (now (a .b))) (k .q) (t .width) = c .before .before .before .before .field .ensures ∙ if-yes _ _ (reached (k .q) 1 (t .width) there (omega arith) (omega (arith, c .before .before .before .before .before .before .before .before .pre .1))) in
     let piece : x ∷ [] ≡ P (k .j) = single-piece (bits (now (a .b))) (a .p + k .j * (a .s * 8)) (k .q) (t .count) (t .width) x (c .before .before .before .before .before .before .before .before .pre .0) (k .inv .1) e in
-    let low : c .before .before .if1 .good ≡ (k .good && leb (t .lo) x) = ⊎-elim (λ w. put-down _ (k .good) _ (lt-leb (t .lo) x (w .0 .taken)) (w .1)) (λ w. left _ (k .good) _ (le-leb (t .lo) x (w .0 .left)) (w .1)) (c .before .before .if1 .came) in
-    let high : c .if2 .good ≡ (c .before .before .if1 .good && leb x (t .hi)) = ⊎-elim (λ w. put-down _ (c .before .before .if1 .good) _ (lt-leb x (t .hi) (w .0 .taken)) (w .1)) (λ w. left _ (c .before .before .if1 .good) _ (le-leb x (t .hi) (w .0 .left)) (w .1)) (c .if2 .came) in (
+    let low : c .before .before .if1 .good ≡ (k .good && leb (t .lo) x) = flagged _ (k .good) _ (λ w. lt-leb (t .lo) x (w .taken)) (λ w. le-leb (t .lo) x (w .left)) (c .before .before .if1 .came) in
+    let high : c .if2 .good ≡ (c .before .before .if1 .good && leb x (t .hi)) = flagged _ (c .before .before .if1 .good) _ (λ w. lt-leb x (t .hi) (w .taken)) (λ w. le-leb x (t .hi) (w .left)) (c .if2 .came) in (
       omega arith,
       omega (arith, k .inv .1, next-row (k .j) (a .s * 8)),
       every-turn (k .good) (c .if2 .good) (k .j) (λ (r : ℕ). inside (t .lo) (t .hi) (P r)) (inside (t .lo) (t .hi) (x ∷ [])) (k .inv .2) (both-ends (k .good) (c .before .before .if1 .good) (c .if2 .good) (t .lo) (t .hi) x low high) (ap (inside (t .lo) (t .hi)) piece),

@@ -1,7 +1,6 @@
 -- `reader::columns::take_pairs` meets its contract. Assumes nothing.
-use mathlib.Core.Path.{_≡_, refl, sym, ap, _∙_}
+use mathlib.Core.Path.{_≡_, refl, _∙_}
 use mathlib.Core.Bool.{_&&_}
-use mathlib.Core.Logic.{⊎-elim}
 use Prim.Native.Nat.{_≤_, _-_, _+_, _*_, _/_, _%_}
 use native.Mathlib.Nat.{add-zero}
 use native.Mathlib.Omega.{arith}
@@ -15,7 +14,7 @@ use Rattle.laws.specs.Bits.{bits, run}
 use Rattle.format.specs.Format.{inside}
 use Rattle.format.proofs.Leaves.{store-done}
 use Rattle.format.proofs.Halves.{pairs-store}
-use Rattle.reader.proofs.Leaves.{put-down, left, pairs-judged, flag-done}
+use Rattle.reader.proofs.Leaves.{flagged, pairs-judged, flag-done}
 use Rattle.reader.proofs.columns.take_pairs.Statement.{statement}
 use Rattle.reader.proofs.columns.take_pairs.Tie as tie
 
@@ -62,8 +61,8 @@ loop-again c =
     let k = c .before .before .before .before .loop in
     let x = getD (now (a .b)) (a .k + k .j) 0 in
     let s = c .before .before .shared-slice-known .given (a .k + k .j) in
-    let high : c .before .if1 .good ≡ (k .good && leb (x / 16) 9) = ⊎-elim (λ w. put-down _ (k .good) _ (lt-leb (x / 16) 9 (w .0 .taken)) (w .1)) (λ w. left _ (k .good) _ (le-leb (x / 16) 9 (w .0 .left)) (w .1)) (c .before .if1 .came) in
-    let low : c .if2 .good ≡ (c .before .if1 .good && leb (x % 16) 9) = ⊎-elim (λ w. put-down _ (c .before .if1 .good) _ (lt-leb (x % 16) 9 (w .0 .taken)) (w .1)) (λ w. left _ (c .before .if1 .good) _ (le-leb (x % 16) 9 (w .0 .left)) (w .1)) (c .if2 .came) in (
+    let high : c .before .if1 .good ≡ (k .good && leb (x / 16) 9) = flagged _ (k .good) _ (λ w. lt-leb (x / 16) 9 (w .taken)) (λ w. le-leb (x / 16) 9 (w .left)) (c .before .if1 .came) in
+    let low : c .if2 .good ≡ (c .before .if1 .good && leb (x % 16) 9) = flagged _ (c .before .if1 .good) _ (λ w. lt-leb (x % 16) 9 (w .taken)) (λ w. le-leb (x % 16) 9 (w .left)) (c .if2 .came) in (
       omega arith,
       omega arith,
       length-set (set (k .out) (k .i) (x / 16)) (k .i + 1) (x % 16) ∙ length-set (k .out) (k .i) (x / 16) ∙ k .inv .2,
