@@ -23,6 +23,7 @@ use Rattle.packet.proofs.Loops.{lines-cons}
 use Rattle.reader.specs.Due.{passing, lesser, Judged}
 use Rattle.reader.specs.Taking.{ownAt}
 use Rattle.reader.proofs.Due.{Going, going-turn, going-last}
+use Rattle.reader.proofs.Leaves.{strips-none}
 use Rattle.reader.proofs.Taking.{length-own}
 
 -- ---- the first j lines, and one more
@@ -102,11 +103,6 @@ pub edge-at : (T : List Line) (j p q : ℕ) (d t : Line) → j < length T → t 
 edge-at T j p q d t h e c s f = ap (λ (x : ℕ). column x t) f ∙ shifted p (size (take j T)) t s ∙ ap (λ (x : ℕ). column x t) (sym (zero-add (size (take j T)))) ∙ stands-at T j 0 d t h e c
 
 -- ---- the beginning, the end, and one row
-strips-none : (n : ℕ) (f : ℕ → List ℕ) (l : List ℕ) (i w : ℕ) → ((r : ℕ) → f r ≡ []) → strips l i w n f ≡ l
-unfolding strips
-strips-none zero f l i w e = refl
-strips-none (suc n) f l i w e = ap (sets (strips l i w n f) (i + n * w)) (e n) ∙ strips-none n f l i w e
-
 pub column-first : (T : List Line) (b o : List ℕ) (p i w n s : ℕ) → o ≡ strips o i w n (λ (k : ℕ). numbersAt (take 0 T) b (p + k * s))
 unfolding flat decode
 column-first T b o p i w n s = sym (strips-none n _ o i w (λ r. refl))

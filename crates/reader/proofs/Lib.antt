@@ -2,4 +2,5 @@ pub mod Rows
 pub mod Taking
 pub mod Whole
 pub mod Due
+pub mod Leaves
 pub mod ByColumns
