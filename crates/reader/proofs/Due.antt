@@ -73,6 +73,9 @@ both F H W r s e f h w x = by-test (ltb s r) less more
           due = λ m. let z = f .due m in (z .0, w r (z .0) ∙ and-no (H r) (z .1));
         })
 
+pub judged-same : (F G : ℕ → Bool) (r : ℕ) → ((k : ℕ) → F k ≡ G k) → Judged F r → Judged G r
+judged-same F G r e j = record { fine = λ k a l. sym (e k) ∙ j .fine k a l; due = λ l. let y = j .due l in (y .0, sym (e r) ∙ y .1) }
+
 pub none-due : (F : ℕ → Bool) → ((k : ℕ) → asked k ≡ true → F k ≡ true) → Judged F 255
 none-due F e = record { fine = λ k a l. e k a; due = λ l. absurd (omega arith) }
 

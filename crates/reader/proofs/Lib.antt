@@ -4,3 +4,4 @@ pub mod Whole
 pub mod Due
 pub mod Leaves
 pub mod ByColumns
+pub mod Contents

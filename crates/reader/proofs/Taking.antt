@@ -191,12 +191,14 @@ module _ (f : Kind) (b : List ℕ) (q : ℕ) where
           ∙ ap (λ (y : ℕ). y % room (getD ws i 0)) x
           ∙ mod-eq-of-lt (roomy (getD ws i 0) (getD first i 0) (word-at ws i (each-kind _ all-fit f)) (held-at (rowOf f .before) b q i))
 
-  -- the digits beside it: two writes, one behind the other
-  pub digits-joined : (o₁ o₂ : List ℕ) (w s v z i r : ℕ) → o₁ ≡ strips (zeros 35) 0 w 1 (λ (n : ℕ). numbersAt (besideOf f) b (q + size (ownOf f) + n * s)) → i ≡ need (rowOf f .before) - numbersIn f
-      → o₂ ≡ strips o₁ i v 1 (λ (n : ℕ). numbersAt (rowOf f .after) b (r + n * z)) → o₂ ≡ padded 35 (drop (numbersIn f) first ++ numbersAt (rowOf f .after) b r)
-  digits-joined o₁ o₂ w s v z i r e ei g =
-      let one : o₁ ≡ sets (zeros 35) 0 behind = e ∙ once (zeros 35) 0 w _ ∙ ap (λ (x : ℕ). sets (zeros 35) 0 (numbersAt (besideOf f) b x)) (omega (arith, zero-mul s)) in
-      let two : o₂ ≡ sets o₁ i (numbersAt (rowOf f .after) b r) = g ∙ once o₁ i v _ ∙ ap (λ (x : ℕ). sets o₁ i (numbersAt (rowOf f .after) b x)) (omega (arith, zero-mul z)) in
+  -- the digits beside it: two writes, one behind the other, by the lines that code has for them
+  pub digits-joined : (N A : List Line) (o o₁ o₂ : List ℕ) (p w x v y i r : ℕ) → N ≡ besideOf f → A ≡ rowOf f .after → o ≡ zeros 35 → p ≡ q + size (ownOf f) → i ≡ need (rowOf f .before) - numbersIn f
+      → o₁ ≡ strips o 0 w 1 (λ (n : ℕ). numbersAt N b (p + n * x)) → o₂ ≡ strips o₁ i v 1 (λ (n : ℕ). numbersAt A b (r + n * y)) → o₂ ≡ padded 35 (drop (numbersIn f) first ++ numbersAt (rowOf f .after) b r)
+  digits-joined N A o o₁ o₂ p w x v y i r en ea eo ep ei e g =
+      let last = numbersAt (rowOf f .after) b r in
+      let at : p + 0 * x ≡ q + size (ownOf f) = omega (arith, ep, zero-mul x) in
+      let also : r + 0 * y ≡ r = omega (arith, zero-mul y) in
+      let one : o₁ ≡ sets (zeros 35) 0 behind = e ∙ once o 0 w _ ∙ rw (en, eo, at) in
+      let two : o₂ ≡ sets o₁ i last = g ∙ once o₁ i v _ ∙ rw (ea, also) in
       let long : i ≡ 0 + length behind = omega (arith, ei, ap length split ∙ length-append mine behind, long-first, long-mine) in
-      join (zeros 35) o₁ o₂ behind (numbersAt (rowOf f .after) b r) 0 i one two long
-      ∙ ap (λ (l : List ℕ). padded 35 (l ++ numbersAt (rowOf f .after) b r)) (sym (ap (drop (numbersIn f)) split ∙ drop-at mine behind (numbersIn f) long-mine))
+      join (zeros 35) o₁ o₂ behind last 0 i one two long ∙ ap (λ (l : List ℕ). padded 35 (l ++ last)) (sym (ap (drop (numbersIn f)) split ∙ drop-at mine behind (numbersIn f) long-mine))

@@ -17,7 +17,7 @@ use Rattle.packet.specs.Table.{rowOf}
 use Rattle.packet.specs.Content.{numbersIn}
 use Rattle.packet.specs.Columns.{column, columns, single}
 use Rattle.packet.specs.InCode.{everyLine, rowAt, linesIn, Stands}
-use Rattle.packet.specs.Reading.{codesIn, kindIn, countOf, partAt, numbersAt, zeros, padded, sizesOf, hasEntries, codesOf, bodyIn, fieldsOf, noFields, sizeBad, lengthBad, readCases}
+use Rattle.packet.specs.Reading.{codesIn, kindIn, countOf, partAt, numbersAt, zeros, padded, sizesOf, isUnknown, hasEntries, codesOf, bodyIn, fieldsOf, noFields, sizeBad, lengthBad, readCases}
 use Rattle.packet.specs.declared.Fields.{Fields}
 use Rattle.laws.specs.Refusals.{first}
 use Rattle.reader.specs.Due.{plain}
@@ -76,7 +76,6 @@ pub record Entries (each : Lines) (k bytes p places : ℕ) : Type 0 where
   pub numbers : each .numbers ≡ need (linesIn each)
   pub bytes-plain : ltb 1 (each .m) ≡ false → all plain (linesIn each) ≡ true
   pub start : p % 8 ≡ 0
-  pub place : p ≤ 2000
   pub inside : p + k * size (linesIn each) ≤ bytes * 8
   pub short : bytes ≤ 250
   pub room : ltb 1 (each .m) ≡ true → k * need (linesIn each) ≤ places
@@ -87,8 +86,9 @@ pub record Holding (f : Kind) (s : RowLines) (z : Sizes) (k bytes q : ℕ) (digi
   pub row : s ≡ rowAt f
   pub sizes : z ≡ sizesOf f
   pub count : k < 256
+  pub known : isUnknown f ≡ false
   pub start : q % 8 ≡ 0
-  pub place : q ≤ 2000
+  pub behind : 24 ≤ q
   pub inside : q + (partAt (rowOf f) + k * size (rowOf f .each) + size (rowOf f .after)) + 592 ≤ bytes * 8
   pub short : bytes ≤ 250
   pub none : digits ≡ zeros 35
@@ -106,6 +106,7 @@ pub record Right (f : Kind) (s : RowLines) (z : Sizes) (n k : ℕ) (b codes entr
   pub sizes : z ≡ sizesOf f
   pub many : n ≡ codesIn b
   pub count : k ≡ countOf b
+  pub known : isUnknown f ≡ false
   pub sized : sizeBad b ≡ false
   pub long : lengthBad b ≡ false
   pub none : codes ≡ zeros 322

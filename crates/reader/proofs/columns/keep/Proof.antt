@@ -17,7 +17,7 @@ same-length : tie.Need-same-length
 same-length c = ap length (c .before .before .put .ensures) ∙ length-set (now (c .before .before .before .before .before .before .args .out)) (c .before .before .before .before .before .before .args .i) (c .before .before .before .before .before .before .args .x)
 
 returns : tie.Need-returns
-returns c = c .before .before .put .ensures ∙ ap (sets (now (c .before .before .before .before .before .before .args .out)) (c .before .before .before .before .before .before .args .i)) (sym (if-yes (c .before .before .before .before .before .before .args .x ∷ []) [] (c .before .before .before .before .before .if1 .taken)))
+returns c = c .before .before .put .ensures ∙ ap (sets (now (c .before .before .before .before .before .before .args .out)) (c .before .before .before .before .before .before .args .i)) (sym (if-yes (c .before .before .before .before .before .before .args .x ∷ []) [] (c .before .before .before .before .if1 .taken)))
 
 returns-2 : tie.Need-returns-2
 returns-2 c = ap (sets (now (c .before .before .args .out)) (c .before .before .args .i)) (sym (if-no (c .before .before .args .x ∷ []) [] (c .if1 .left)))

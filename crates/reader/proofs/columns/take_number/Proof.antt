@@ -14,6 +14,7 @@ use Rattle.laws.proofs.Cases.{if-yes, and-yes, and-no}
 use Rattle.format.specs.declared.Line.{Line}
 use Rattle.format.specs.Format.{inside}
 use Rattle.format.proofs.Leaves.{reached}
+use Rattle.reader.proofs.Rows.{kept}
 use borrow.Author.Needs.{needs}
 use Rattle.reader.proofs.columns.take_number.Statement.{statement}
 use Rattle.reader.proofs.columns.take_number.Tie as tie
@@ -42,7 +43,7 @@ keep-requires : tie.Need-keep-requires
 keep-requires c κs = search needs
 
 same-length : tie.Need-same-length
-same-length c = ?
+same-length c = let a = c .before .before .before .before .before .before .before .before .before .args in kept _ (now (a .out)) (c .before .before .before .before .keep .last .1 .1 .0) (cond (a .t .given) (c .before .before .before .before .before .before .field .result ∷ []) []) (a .i) refl (c .before .before .before .before .keep .ensures)
 
 returns : tie.Need-returns
 returns c =
@@ -51,7 +52,7 @@ returns c =
     (c .before .before .before .before .keep .ensures ∙ ap (λ (l : List ℕ). sets (now (a .out)) (a .i) (cond (a .t .given) l [])) e, low (a .t .lo) (a .t .hi) (c .before .before .before .before .before .before .field .result) (c .if1 .taken) ∙ ap (inside (a .t .lo) (a .t .hi)) e)
 
 same-length-2 : tie.Need-same-length-2
-same-length-2 c = ?
+same-length-2 c = let a = c .before .before .before .before .before .before .before .before .before .before .args in kept _ (now (a .out)) (c .before .before .before .before .before .keep .last .1 .1 .0) (cond (a .t .given) (c .before .before .before .before .before .before .before .field .result ∷ []) []) (a .i) refl (c .before .before .before .before .before .keep .ensures)
 
 returns-2 : tie.Need-returns-2
 returns-2 c =
