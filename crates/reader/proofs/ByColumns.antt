@@ -131,12 +131,12 @@ rows-taken T b o o″ p w n s es ew e =
     ∙ ap (sets o 0) (joined-same n _ _ (λ k h. ap (λ (x : ℕ). numbersAt T b (p + k * x)) es) ∙ sym (numbers-rows n T b p))
 
 pub rows-due : (T : List Line) (l : List ℕ) (p n s r : ℕ) → s ≡ size T → Judged (λ (a : ℕ). every n (λ (k : ℕ). fine a T (decode T l (p + k * s)))) r → Judged (λ (a : ℕ). fine a (times n T) (decode (times n T) l p)) r
-rows-due T l p n s r es = judged-same _ _ r (λ a. every-same n _ _ (λ k h. ap (λ (x : ℕ). fine a T (decode T l (p + k * x))) es) ∙ sym (fine-rows a n T l p))
+rows-due T l p n s r es = judged-same _ _ r (λ a m. every-same n _ _ (λ k h. ap (λ (x : ℕ). fine a T (decode T l (p + k * x))) es) ∙ sym (fine-rows a n T l p))
 
 -- and one row, whatever the distance
 pub one-due : (T : List Line) (l : List ℕ) (p s r : ℕ) → Judged (λ (a : ℕ). every 1 (λ (k : ℕ). fine a T (decode T l (p + k * s)))) r → Judged (λ (a : ℕ). fine a T (decode T l p)) r
 unfolding every
-one-due T l p s r = judged-same _ _ r (λ a. ap (λ (x : ℕ). fine a T (decode T l x)) (omega (arith, zero-mul s)))
+one-due T l p s r = judged-same _ _ r (λ a m. ap (λ (x : ℕ). fine a T (decode T l x)) (omega (arith, zero-mul s)))
 
 -- ---- the codes: two columns
 pub codes-taken : (b o o″ : List ℕ) (n : ℕ) → o″ ≡ strips o 0 23 n (λ (x : ℕ). run (bits b) (28 + x * 96) 23 4) → o″ ≡ sets o 0 (numbersAt (times n code) b 24)

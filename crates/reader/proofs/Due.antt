@@ -73,8 +73,8 @@ both F H W r s e f h w x = by-test (ltb s r) less more
           due = λ m. let z = f .due m in (z .0, w r (z .0) ∙ and-no (H r) (z .1));
         })
 
-pub judged-same : (F G : ℕ → Bool) (r : ℕ) → ((k : ℕ) → F k ≡ G k) → Judged F r → Judged G r
-judged-same F G r e j = record { fine = λ k a l. sym (e k) ∙ j .fine k a l; due = λ l. let y = j .due l in (y .0, sym (e r) ∙ y .1) }
+pub judged-same : (F G : ℕ → Bool) (r : ℕ) → ((k : ℕ) → asked k ≡ true → F k ≡ G k) → Judged F r → Judged G r
+judged-same F G r e j = record { fine = λ k a l. sym (e k a) ∙ j .fine k a l; due = λ l. let y = j .due l in (y .0, sym (e r (y .0)) ∙ y .1) }
 
 pub none-due : (F : ℕ → Bool) → ((k : ℕ) → asked k ≡ true → F k ≡ true) → Judged F 255
 none-due F e = record { fine = λ k a l. e k a; due = λ l. absurd (omega arith) }
@@ -85,7 +85,7 @@ asked-cases k a x y z =
     by-test (eqb k 24) (λ e. x (eqb-true k 24 e))
     (λ e. by-test (eqb k 25) (λ f. y (eqb-true k 25 f)) (λ f. z (eqb-true k 27 (sym (or-no (eqb k 27) f) ∙ (sym (or-no (eqb k 25 || eqb k 27) e) ∙ a)))))
 
-asked-some : (k : ℕ) → asked k ≡ true → k ≡ 0 → ⊥
+pub asked-some : (k : ℕ) → asked k ≡ true → k ≡ 0 → ⊥
 asked-some k a e = asked-cases k a (λ x. omega arith) (λ x. omega arith) (λ x. omega arith)
 
 pub asked-not : (k : ℕ) → asked k ≡ true → k ≡ 26 → ⊥

@@ -5,3 +5,4 @@ pub mod Due
 pub mod Leaves
 pub mod ByColumns
 pub mod Contents
+pub mod Telling
