@@ -5,24 +5,28 @@ use mathlib.Core.List.{List, [], _++_}
 use Prim.Native.Nat.{ℕ, _+_, _-_, _*_, _%_, _<_, _≤_}
 use native.Mathlib.Omega.{arith}
 use lib.ListN.{length, drop}
+use lib.Seq.{sets}
 use lib.Dec.{eqb}
 use borrow.Author.Tests.{eqb-true, eqb-false, ne-eqb}
-use Rattle.laws.specs.Bits.{run, bits}
+use Rattle.laws.specs.Bits.{at, run, bits}
+use Rattle.laws.proofs.Bits.{length-run}
 use Rattle.laws.specs.Refusals.{first}
 use Rattle.laws.proofs.Cases.{if-yes, if-no, or-yes, or-no}
 use Rattle.laws.proofs.Elements.{by-test}
 use Rattle.format.specs.Format.{any, digits, octets, times, size, inside, decode, fine, lineOk}
 use Rattle.packet.specs.declared.Kind.{Kind}
 use Rattle.packet.specs.declared.Content.{Content}
+use Rattle.packet.specs.declared.Fields.{Fields}
 use Rattle.packet.specs.declared.RowLines.{RowLines}
 use Rattle.packet.specs.declared.Sizes.{Sizes}
 use Rattle.packet.specs.Table.{rowOf, code, ending, contentLines}
 use Rattle.packet.specs.Content.{contentOf, numbersIn, noSuchDay}
-use Rattle.packet.specs.Reading.{codesIn, kindIn, contentAt, contentSize, countOf, partAt, numbersAt, frontIn, bodyIn, backIn, contentIn, digitsIn, codesOf, zeros, padded, hasEntries, tableOf, valuesIn, readCases}
+use Rattle.packet.specs.Reading.{typeIn, fieldsOf, codesIn, kindIn, contentAt, contentSize, countOf, partAt, numbersAt, frontIn, bodyIn, backIn, contentIn, digitsIn, codesOf, zeros, padded, hasEntries, tableOf, valuesIn, readCases}
 use Rattle.packet.proofs.Column.{content-size}
 use Rattle.reader.specs.Due.{asked, passing, lesser, Judged}
 use Rattle.reader.specs.Taking.{Holding, Beside, Right}
 use Rattle.reader.proofs.Due.{both, judged-same, line-fine, line-due, asked-some, asked-not, asked-cases}
+use Rattle.reader.proofs.Rows.{full}
 use Rattle.reader.proofs.Whole as whole
 
 -- ---- the answer by what the lines are due
@@ -117,3 +121,15 @@ module _ (f : Kind) (s : RowLines) (z : Sizes) (n k : ℕ) (b codes entries : Li
   pub codes-are : (o : List ℕ) → o ≡ padded 322 (numbersAt (times n code) b 24) → o ≡ padded 322 (codesOf b)
   unfolding codesOf
   codes-are o e = e ∙ rw (h .many)
+
+  pub certificate-is : (z o : List ℕ) → z ≡ zeros 12 → o ≡ sets z 0 (run (bits b) ((length b - 64) * 8 - 12 * 4) 12 4) → o ≡ run (bits b) (8 * (length b - 70)) 12 4
+  certificate-is z o e g =
+      let p : (length b - 64) * 8 - 12 * 4 ≡ 8 * (length b - 70) = omega (arith, codes-there) in
+      full 12 z o (run (bits b) ((length b - 64) * 8 - 12 * 4) 12 4) e g (length-run (bits b) ((length b - 64) * 8 - 12 * 4) 12 4) ∙ ap (λ (x : ℕ). run (bits b) x 12 4) p
+
+-- all of the fields
+pub fields-are : (b : List ℕ) (t m : ℕ) (c : Content) (d : List ℕ) (x : ℕ) (y g : List ℕ) → t ≡ typeIn b → m ≡ codesIn b → c ≡ contentIn b → d ≡ padded 35 (digitsIn b) → x ≡ at (bits b) (8 * (length b - 74)) 32
+    → y ≡ run (bits b) (8 * (length b - 70)) 12 4 → g ≡ run (bits b) (8 * (length b - 64)) 64 8
+    → _≡_ {A = Fields} (record { typenumber = t; codes = m; content = c; digits = d; time = x; certificate = y; signature = g }) (fieldsOf b)
+unfolding fieldsOf
+fields-are b t m c d x y g et em ec ed ex ey eg = rw (et, em, ec, ed, ex, ey, eg)
