@@ -74,9 +74,9 @@ module _ (T : List Line) (j : ℕ) (d t : Line) (h : j < length T) (e : t ≡ ge
   due-turn l p q w n s good x r y ew eg g i ey =
       going-turn _ _ (passing t good) _ x r y g i
       (λ a.
-        every-same n _ _ (λ k m. rw (lines-cons T j d t h e))
-        ∙ every-and n (λ (k : ℕ). lineOk a t (run l (q + k * s) (t .count) (t .width))) (λ (k : ℕ). fine a (drop (j + 1) T) (decode (drop (j + 1) T) l (q + k * s + t .count * t .width)))
-        ∙ ap₂ (λ (u v : Bool). u && v) (passes l q n s a ∙ ap (λ (z : Bool). passing t z a) (sym eg)) (every-same n _ _ (λ k m. ap (λ (z : ℕ). fine a (drop (j + 1) T) (decode (drop (j + 1) T) l z)) (omega (arith, ew)))))
+      every-same n _ _ (λ k m. rw (lines-cons T j d t h e))
+      ∙ every-and n (λ (k : ℕ). lineOk a t (run l (q + k * s) (t .count) (t .width))) (λ (k : ℕ). fine a (drop (j + 1) T) (decode (drop (j + 1) T) l (q + k * s + t .count * t .width)))
+      ∙ ap₂ (λ (u v : Bool). u && v) (passes l q n s a ∙ ap (λ (z : Bool). passing t z a) (sym eg)) (every-same n _ _ (λ k m. ap (λ (z : ℕ). fine a (drop (j + 1) T) (decode (drop (j + 1) T) l z)) (omega (arith, ew)))))
       ey
 
 -- the first lines have no more than all
@@ -151,11 +151,11 @@ unfolding size fine decode
 codes-due l n x y u v r ex ey ju jv er =
     both (passing (ones 4) x) (passing (digits 23) y) _ u v r ju jv
     (λ a h.
-      fine-rows a n code l 24
-      ∙ every-and n (λ (k : ℕ). lineOk a (ones 4) (run l (24 + k * 96) 1 4)) (λ (k : ℕ). lineOk a (digits 23) (run l (24 + k * 96 + 4) 23 4) && true)
-      ∙ ap₂ (λ (s t : Bool). s && t) (conds a 24 n (λ (k : ℕ). inside 15 15 (run l (24 + k * 96) 1 4)) ∙ ap (λ (z : Bool). cond (eqb 24 a) z true) (sym ex))
-      (every-same n _ (λ (k : ℕ). cond (eqb 25 a) (inside 0 9 (run l (28 + k * 96) 23 4)) true) (λ k m. and-true _ ∙ ap (λ (z : ℕ). cond (eqb 25 a) (inside 0 9 (run l z 23 4)) true) (omega arith))
-      ∙ conds a 25 n (λ (k : ℕ). inside 0 9 (run l (28 + k * 96) 23 4)) ∙ ap (λ (z : Bool). cond (eqb 25 a) z true) (sym ey)))
+    fine-rows a n code l 24
+    ∙ every-and n (λ (k : ℕ). lineOk a (ones 4) (run l (24 + k * 96) 1 4)) (λ (k : ℕ). lineOk a (digits 23) (run l (24 + k * 96 + 4) 23 4) && true)
+    ∙ ap₂ (λ (s t : Bool). s && t) (conds a 24 n (λ (k : ℕ). inside 15 15 (run l (24 + k * 96) 1 4)) ∙ ap (λ (z : Bool). cond (eqb 24 a) z true) (sym ex))
+    (every-same n _ (λ (k : ℕ). cond (eqb 25 a) (inside 0 9 (run l (28 + k * 96) 23 4)) true) (λ k m. and-true _ ∙ ap (λ (z : ℕ). cond (eqb 25 a) (inside 0 9 (run l z 23 4)) true) (omega arith))
+    ∙ conds a 25 n (λ (k : ℕ). inside 0 9 (run l (28 + k * 96) 23 4)) ∙ ap (λ (z : Bool). cond (eqb 25 a) z true) (sym ey)))
     er
   where
     and-true : (z : Bool) → (z && true) ≡ z

@@ -182,10 +182,10 @@ module _ (f : Kind) (k : ℕ) (l : List ℕ) (q : ℕ) where
   content-due p r u v w x d y ep er ju jv jw jd =
       let F = rowOf f .before in
       let front : Judged (λ (a : ℕ). fine a F (decode F l q)) (lesser u v) =
-        both _ _ _ u v _ ju (one-due (besideOf f) l p x v jv) (λ a h. two a ∙ ap (λ (z : ℕ). fine a (ownOf f) (decode (ownOf f) l q) && fine a (besideOf f) (decode (besideOf f) l z)) (sym ep)) refl
+      both _ _ _ u v _ ju (one-due (besideOf f) l p x v jv) (λ a h. two a ∙ ap (λ (z : ℕ). fine a (ownOf f) (decode (ownOf f) l q) && fine a (besideOf f) (decode (besideOf f) l z)) (sym ep)) refl
       in
       let rest : Judged (λ (a : ℕ). fine a (times k (rowOf f .each)) (decode (times k (rowOf f .each)) l (q + partAt (rowOf f))) && fine a (rowOf f .after) (decode (rowOf f .after) l (q + partAt (rowOf f) + k * size (rowOf f .each)))) (lesser w d) =
-        both _ _ _ w d _ jw (one-due (rowOf f .after) l r y d jd) (λ a h. ap (λ (z : ℕ). fine a (times k (rowOf f .each)) (decode (times k (rowOf f .each)) l (q + partAt (rowOf f))) && fine a (rowOf f .after) (decode (rowOf f .after) l z)) (sym er)) refl
+      both _ _ _ w d _ jw (one-due (rowOf f .after) l r y d jd) (λ a h. ap (λ (z : ℕ). fine a (times k (rowOf f .each)) (decode (times k (rowOf f .each)) l (q + partAt (rowOf f))) && fine a (rowOf f .after) (decode (rowOf f .after) l z)) (sym er)) refl
       in
       both _ _ _ (lesser u v) (lesser w d) _ front rest (λ a h. content-parts a (rowOf f) k l q (asked-not a h)) refl
     where

@@ -183,9 +183,9 @@ module _ (f : Kind) (b : List ℕ) (q : ℕ) where
       at i h =
           let n : i < length ws = omega (arith, length-widths (rowOf f .before), good f .numbered) in
           let x : getD xs i 0 ≡ getD first i 0 =
-            ap (λ (l : List ℕ). getD l i 0) (e ∙ padded-is 6 mine (omega (arith, long-mine, good f .few)))
-            ∙ List·getD-append mine (drop (length mine) (replicate 6 0)) 0 i (omega (arith, long-mine))
-            ∙ sym (ap (λ (l : List ℕ). getD l i 0) split ∙ List·getD-append mine behind 0 i (omega (arith, long-mine)))
+          ap (λ (l : List ℕ). getD l i 0) (e ∙ padded-is 6 mine (omega (arith, long-mine, good f .few)))
+          ∙ List·getD-append mine (drop (length mine) (replicate 6 0)) 0 i (omega (arith, long-mine))
+          ∙ sym (ap (λ (l : List ℕ). getD l i 0) split ∙ List·getD-append mine behind 0 i (omega (arith, long-mine)))
           in
           cut-at ws xs i (lt-ltb i (length ws) n)
           ∙ ap (λ (y : ℕ). y % room (getD ws i 0)) x

@@ -2,7 +2,7 @@
 use mathlib.Core.Path.{_≡_, refl, sym, ap, ap₂, subst, _∙_}
 use mathlib.Core.Bool.{Bool, true, false, not, cond, _&&_}
 use mathlib.Core.List.{List, [], _++_}
-use Prim.Native.Nat.{ℕ, _+_, _-_, _*_, _%_, _<_, _≤_}
+use Prim.Native.Nat.{ℕ, zero, suc, _+_, _-_, _*_, _%_, _<_, _≤_}
 use native.Mathlib.Omega.{arith}
 use lib.ListN.{length, drop}
 use lib.Seq.{sets}
@@ -17,12 +17,14 @@ use Rattle.format.specs.Format.{any, digits, octets, times, size, inside, decod
 use Rattle.packet.specs.declared.Kind.{Kind}
 use Rattle.packet.specs.declared.Content.{Content}
 use Rattle.packet.specs.declared.Fields.{Fields}
+use Rattle.packet.specs.declared.Opened.{Opened}
 use Rattle.packet.specs.declared.RowLines.{RowLines}
 use Rattle.packet.specs.declared.Sizes.{Sizes}
 use Rattle.packet.specs.Table.{rowOf, code, ending, contentLines}
 use Rattle.packet.specs.Content.{contentOf, numbersIn, noSuchDay}
-use Rattle.packet.specs.Reading.{typeIn, fieldsOf, codesIn, kindIn, contentAt, contentSize, countOf, partAt, numbersAt, frontIn, bodyIn, backIn, contentIn, digitsIn, codesOf, zeros, padded, hasEntries, tableOf, valuesIn, readCases}
+use Rattle.packet.specs.Reading.{readAnswer, opened, openedBy, refusedAs, typeIn, fieldsOf, codesIn, kindIn, contentAt, contentSize, countOf, partAt, numbersAt, frontIn, bodyIn, backIn, contentIn, digitsIn, codesOf, zeros, padded, hasEntries, tableOf, valuesIn, readCases}
 use Rattle.packet.proofs.Column.{content-size}
+use Rattle.packet.proofs.Refused.{not-opened}
 use Rattle.reader.specs.Due.{asked, passing, lesser, Judged}
 use Rattle.reader.specs.Taking.{Holding, Beside, Right}
 use Rattle.reader.proofs.Due.{both, judged-same, line-fine, line-due, asked-some, asked-not, asked-cases}
@@ -41,10 +43,10 @@ pub says : (b : List ℕ) (d : ℕ) (day : Bool) → Judged (λ (a : ℕ). fine 
 says b d day j l e =
     by-test (eqb d 255)
     (λ t. let f : (k : ℕ) → asked k ≡ true → k < 255 → fine k (tableOf b) (valuesIn b) ≡ true = λ k a m. j .fine k a (omega (arith, eqb-true d 255 t)) in
-      if-yes (cond day 27 0) d t
-      ∙ by-test day
-      (λ s. if-yes 27 0 s ∙ whole.says-27 b (f 24 refl (omega arith)) (f 25 refl (omega arith)) (or-no _ (ap not (f 27 refl (omega arith))) ∙ sym e ∙ s))
-      (λ s. if-no 27 0 s ∙ whole.says-0 b (f 24 refl (omega arith)) (f 25 refl (omega arith)) (or-no _ (ap not (f 27 refl (omega arith))) ∙ sym e ∙ s)))
+    if-yes (cond day 27 0) d t
+    ∙ by-test day
+    (λ s. if-yes 27 0 s ∙ whole.says-27 b (f 24 refl (omega arith)) (f 25 refl (omega arith)) (or-no _ (ap not (f 27 refl (omega arith))) ∙ sym e ∙ s))
+    (λ s. if-no 27 0 s ∙ whole.says-0 b (f 24 refl (omega arith)) (f 25 refl (omega arith)) (or-no _ (ap not (f 27 refl (omega arith))) ∙ sym e ∙ s)))
     (λ t. if-no (cond day 27 0) d t ∙ says-due b d j (omega (arith, eqb-false d 255 t)))
 
 -- ---- what follows the content is due only for its digits
@@ -133,3 +135,23 @@ pub fields-are : (b : List ℕ) (t m : ℕ) (c : Content) (d : List ℕ) (x : �
     → _≡_ {A = Fields} (record { typenumber = t; codes = m; content = c; digits = d; time = x; certificate = y; signature = g }) (fieldsOf b)
 unfolding fieldsOf
 fields-are b t m c d x y g et em ec ed ex ey eg = rw (et, em, ec, ed, ex, ey, eg)
+
+-- ---- what is opened beside a number, and beside 0
+pub opened-none : (b : List ℕ) (a : ℕ) → a ≡ readAnswer b → (a ≡ 0 → ⊥) → opened b ≡ refusedAs a
+unfolding opened
+opened-none b a e n = not-opened (readAnswer b) b (λ h. n (e ∙ h)) ∙ ap refusedAs (sym e)
+
+pub opened-all : (b : List ℕ) → readAnswer b ≡ 0 → opened b ≡ openedBy 0 b
+unfolding opened
+opened-all b e = ap (λ (a : ℕ). openedBy a b) e
+
+pub opened-of : (o : Opened) (a : ℕ) (f : Fields) (k e : List ℕ) → a ≡ o .answer → f ≡ o .fields → k ≡ o .codes → e ≡ o .entries → _≡_ {A = Opened} (record { answer = a; fields = f; codes = k; entries = e }) o
+opened-of o a f k e p q r s = rw (p, q, r, s)
+
+pub answered : (b : List ℕ) → opened b .answer ≡ readAnswer b
+unfolding opened
+answered b = go (readAnswer b)
+  where
+    go : (a : ℕ) → openedBy a b .answer ≡ a
+    go zero = refl
+    go (suc a) = refl

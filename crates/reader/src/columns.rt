@@ -58,7 +58,16 @@ pub(crate) fn take_digits(b: &[u8], e: usize, c: usize, out: &mut [u8], to: usiz
 }
 
 // Digits in each of n rows, s bytes apart, that end with byte e in the first.
-fn digits_column(c: usize, b: &[u8], e: usize, s: usize, n: usize, out: &mut [u8], i: usize, w: usize) -> bool
+fn digits_column(
+    c: usize,
+    b: &[u8],
+    e: usize,
+    s: usize,
+    n: usize,
+    out: &mut [u8],
+    i: usize,
+    w: usize,
+) -> bool
     requires { ⌜ Digits c (length (now b)) e s n (length (now out)) i w ⌝ }
     ensures { λ r. ⌜ (now (out .exit) ≡ strips (now (out .entry)) i w n (λ (k : ℕ). run (bits (now (b .entry))) (e * 8 - c * 4 + k * (s * 8)) c 4)) × (r ≡ every n (λ (k : ℕ). inside 0 9 (run (bits (now (b .entry))) (e * 8 - c * 4 + k * (s * 8)) c 4))) ⌝ }
 {
@@ -79,7 +88,17 @@ fn digits_column(c: usize, b: &[u8], e: usize, s: usize, n: usize, out: &mut [u8
 }
 
 // A byte in each of n rows, s bytes apart, from byte k on; whether each is lo to hi.
-fn octet_column(lo: u8, hi: u8, b: &[u8], k: usize, s: usize, n: usize, out: &mut [u8], i: usize, w: usize) -> bool
+fn octet_column(
+    lo: u8,
+    hi: u8,
+    b: &[u8],
+    k: usize,
+    s: usize,
+    n: usize,
+    out: &mut [u8],
+    i: usize,
+    w: usize,
+) -> bool
     requires { ⌜ Octets (length (now b)) k s n (length (now out)) i w ⌝ }
     ensures { λ r. ⌜ (now (out .exit) ≡ strips (now (out .entry)) i w n (λ (j : ℕ). run (bits (now (b .entry))) (k * 8 + j * (s * 8)) 1 8)) × (r ≡ every n (λ (j : ℕ). inside lo hi (run (bits (now (b .entry))) (k * 8 + j * (s * 8)) 1 8))) ⌝ }
 {
@@ -126,7 +145,16 @@ fn same_column(t: Line, b: &[u8], p: usize, s: usize, n: usize) -> bool
 }
 
 // A line in each of n rows, s bytes apart, from bit p on; its numbers to out from i on, w apart; whether each is as the line says.
-fn take_column(t: Line, b: &[u8], p: usize, s: usize, n: usize, out: &mut [u8], i: usize, w: usize) -> bool
+fn take_column(
+    t: Line,
+    b: &[u8],
+    p: usize,
+    s: usize,
+    n: usize,
+    out: &mut [u8],
+    i: usize,
+    w: usize,
+) -> bool
     requires { ⌜ Column t (length (now b)) p s n (length (now out)) i w ⌝ }
     ensures { λ r. ⌜ (now (out .exit) ≡ strips (now (out .entry)) i w n (λ (k : ℕ). ownAt t (now (b .entry)) (p + k * (s * 8)))) × (r ≡ every n (λ (k : ℕ). inside (t .lo) (t .hi) (run (bits (now (b .entry))) (p + k * (s * 8)) (t .count) (t .width)))) ⌝ }
 {

@@ -114,7 +114,12 @@ pub(crate) fn count(b: &[u8]) -> usize
     let s = table::row_of(f);
     let z = table::sizes_of(f);
     let counting = s.counting;
-    count_at(counting, b, 16 + 96 * codes_count(b) + z.lead, content_size(b))
+    count_at(
+        counting,
+        b,
+        16 + 96 * codes_count(b) + z.lead,
+        content_size(b),
+    )
 }
 
 // The bytes of the text: as many as its length says, whatever they are.

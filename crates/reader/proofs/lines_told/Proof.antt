@@ -109,7 +109,7 @@ returns c =
     let content = telling.content-is (a .f) (a .s) (a .z) (a .n) (a .k) (now (a .b)) (now (a .codes)) (now (a .entries)) h (c .before .before .before .before .before .before .before .before .before .before .before .before .before .take-content .result .content) (t .0) in
     let answer : c .before .before .lines-answer .result ≡ first (drop 3 (readCases b)) = c .before .before .lines-answer .ensures ∙ telling.says b (c .before .before .before .before .least2 .result) (c .before .before .before .no-such-day .result) j (omega arith) (c .before .before .before .no-such-day .ensures ∙ ap noSuchDay content) in
     let long : (length (c .before .before .before .before .before .before .before .before .before .before .before .before .before .before .before .before .before .before .take-codes .last .1 .1 .0) ≡ 322) × (length (c .before .before .before .before .before .before .before .before .before .before .before .before .before .take-content .last .1 .1 .1 .1 .1 .1 .1 .0) ≡ 272) =
-      (kept 322 (now (a .codes)) (c .before .before .before .before .before .before .before .before .before .before .before .before .before .before .before .before .before .before .take-codes .last .1 .1 .0) (numbersAt (times (a .n) code) b 24) 0 (length-zeros 322 (now (a .codes)) (h .none)) (c .before .before .before .before .before .before .before .before .before .before .before .before .before .before .before .before .before .before .take-codes .ensures .0), ap length (t .2 .entries-are) ∙ length-sets (zeros 272) 0 (cond (hasEntries (a .f)) (numbersAt (times (a .k) (rowOf (a .f) .each)) b (24 + 96 * a .n + partAt (rowOf (a .f)))) []) ∙ length-zeros 272 (zeros 272) refl)
+    (kept 322 (now (a .codes)) (c .before .before .before .before .before .before .before .before .before .before .before .before .before .before .before .before .before .before .take-codes .last .1 .1 .0) (numbersAt (times (a .n) code) b 24) 0 (length-zeros 322 (now (a .codes)) (h .none)) (c .before .before .before .before .before .before .before .before .before .before .before .before .before .before .before .before .before .before .take-codes .ensures .0), ap length (t .2 .entries-are) ∙ length-sets (zeros 272) 0 (cond (hasEntries (a .f)) (numbersAt (times (a .k) (rowOf (a .f) .each)) b (24 + 96 * a .n + partAt (rowOf (a .f)))) []) ∙ length-zeros 272 (zeros 272) refl)
     in
     let no = c .before .if1 .taken in
     let x = ap (λ (t : Told). t .answer) (c .refused .ensures) in
@@ -153,17 +153,17 @@ returns-2 c =
     let content = telling.content-is (a .f) (a .s) (a .z) (a .n) (a .k) (now (a .b)) (now (a .codes)) (now (a .entries)) h (c .before .before .before .before .before .before .before .before .before .before .before .before .before .before .before .take-content .result .content) (t .0) in
     let answer : c .before .before .before .before .lines-answer .result ≡ first (drop 3 (readCases b)) = c .before .before .before .before .lines-answer .ensures ∙ telling.says b (c .before .before .before .before .before .before .least2 .result) (c .before .before .before .before .before .no-such-day .result) j (omega arith) (c .before .before .before .before .before .no-such-day .ensures ∙ ap noSuchDay content) in
     let long : (length (c .before .before .before .before .before .before .before .before .before .before .before .before .before .before .before .before .before .before .before .before .take-codes .last .1 .1 .0) ≡ 322) × (length (c .before .before .before .before .before .before .before .before .before .before .before .before .before .before .before .take-content .last .1 .1 .1 .1 .1 .1 .1 .0) ≡ 272) =
-      (kept 322 (now (a .codes)) (c .before .before .before .before .before .before .before .before .before .before .before .before .before .before .before .before .before .before .before .before .take-codes .last .1 .1 .0) (numbersAt (times (a .n) code) b 24) 0 (length-zeros 322 (now (a .codes)) (h .none)) (c .before .before .before .before .before .before .before .before .before .before .before .before .before .before .before .before .before .before .before .before .take-codes .ensures .0), ap length (t .2 .entries-are) ∙ length-sets (zeros 272) 0 (cond (hasEntries (a .f)) (numbersAt (times (a .k) (rowOf (a .f) .each)) b (24 + 96 * a .n + partAt (rowOf (a .f)))) []) ∙ length-zeros 272 (zeros 272) refl)
+    (kept 322 (now (a .codes)) (c .before .before .before .before .before .before .before .before .before .before .before .before .before .before .before .before .before .before .before .before .take-codes .last .1 .1 .0) (numbersAt (times (a .n) code) b 24) 0 (length-zeros 322 (now (a .codes)) (h .none)) (c .before .before .before .before .before .before .before .before .before .before .before .before .before .before .before .before .before .before .before .before .take-codes .ensures .0), ap length (t .2 .entries-are) ∙ length-sets (zeros 272) 0 (cond (hasEntries (a .f)) (numbersAt (times (a .k) (rowOf (a .f) .each)) b (24 + 96 * a .n + partAt (rowOf (a .f)))) []) ∙ length-zeros 272 (zeros 272) refl)
     in
     let zero : c .before .before .before .before .lines-answer .result ≡ 0 = c .before .before .before .if1 .left in
     record {
       due = sym zero ∙ answer;
       said =
-        λ e. (
-          telling.fields-are b _ _ _ _ _ _ _ (c .before .before .type-in .ensures) (h .many) content (telling.digits-are (a .f) (a .s) (a .z) (a .n) (a .k) (now (a .b)) (now (a .codes)) (now (a .entries)) h _ _ (t .2)) (c .before .time .ensures) (telling.certificate-is (a .f) (a .s) (a .z) (a .n) (a .k) (now (a .b)) (now (a .codes)) (now (a .entries)) h (c .before .before .before .before .before .before .before .before .before .before .before .before .before .before .before .before .before .before .before .before .before .before .zeros12 .result) _ (c .before .before .before .before .before .before .before .before .before .before .before .before .before .before .before .before .before .before .before .before .before .before .zeros12 .ensures) (c .before .before .before .before .before .before .before .before .before .before .take-digits .ensures .0)) (c .signature .ensures),
-          telling.codes-are (a .f) (a .s) (a .z) (a .n) (a .k) (now (a .b)) (now (a .codes)) (now (a .entries)) h _ (c .before .before .before .before .before .before .before .before .before .before .before .before .before .before .before .before .before .before .before .before .take-codes .ensures .0 ∙ ap (λ (l : List ℕ). sets l 0 (numbersAt (times (a .n) code) b 24)) (h .none)),
-          telling.entries-are (a .f) (a .s) (a .z) (a .n) (a .k) (now (a .b)) (now (a .codes)) (now (a .entries)) h _ _ (t .2),
-        );
+          λ e. (
+            telling.fields-are b _ _ _ _ _ _ _ (c .before .before .type-in .ensures) (h .many) content (telling.digits-are (a .f) (a .s) (a .z) (a .n) (a .k) (now (a .b)) (now (a .codes)) (now (a .entries)) h _ _ (t .2)) (c .before .time .ensures) (telling.certificate-is (a .f) (a .s) (a .z) (a .n) (a .k) (now (a .b)) (now (a .codes)) (now (a .entries)) h (c .before .before .before .before .before .before .before .before .before .before .before .before .before .before .before .before .before .before .before .before .before .before .zeros12 .result) _ (c .before .before .before .before .before .before .before .before .before .before .before .before .before .before .before .before .before .before .before .before .before .before .zeros12 .ensures) (c .before .before .before .before .before .before .before .before .before .before .take-digits .ensures .0)) (c .signature .ensures),
+            telling.codes-are (a .f) (a .s) (a .z) (a .n) (a .k) (now (a .b)) (now (a .codes)) (now (a .entries)) h _ (c .before .before .before .before .before .before .before .before .before .before .before .before .before .before .before .before .before .before .before .before .take-codes .ensures .0 ∙ ap (λ (l : List ℕ). sets l 0 (numbersAt (times (a .n) code) b 24)) (h .none)),
+            telling.entries-are (a .f) (a .s) (a .z) (a .n) (a .k) (now (a .b)) (now (a .codes)) (now (a .entries)) h _ _ (t .2),
+          );
       nothing = λ e. absurd (e refl);
       long = long;
     }
