@@ -1,12 +1,12 @@
 -- A content's parts by columns: what each asks, and what they are together. Assumes nothing.
 use mathlib.Core.Path.{_≡_, refl, sym, ap, subst, _∙_}
 use mathlib.Core.Bool.{Bool, true, false, not, _&&_, _||_}
-use mathlib.Core.List.{List, _++_}
+use mathlib.Core.List.{List}
 use Prim.Native.Nat.{ℕ, _+_, _-_, _*_, _/_, _%_, _<_, _≤_}
 use native.Mathlib.Nat.{mul-assoc, mul-le-mul-left, zero-mul}
 use native.Mathlib.Omega.{arith}
-use lib.ListN.{length, take, drop, take-append-drop}
-use lib.Dec.{leb, ltb, eqb}
+use lib.ListN.{length, take-append-drop}
+use lib.Dec.{ltb, eqb}
 use borrow.Author.Tests.{eqb-true, leb-true}
 use Rattle.laws.specs.Scan.{all}
 use Rattle.laws.specs.Strips.{every}
@@ -21,7 +21,7 @@ use Rattle.packet.specs.declared.Sizes.{Sizes}
 use Rattle.packet.specs.Table.{kinds, rowOf, contentLines}
 use Rattle.packet.specs.Content.{numbersIn}
 use Rattle.packet.specs.Columns.{columns, single}
-use Rattle.packet.specs.InCode.{ownLines, ownOf, besideOf, rowAt, linesIn}
+use Rattle.packet.specs.InCode.{ownLines, ownOf, besideOf, rowAt}
 use Rattle.packet.specs.Reading.{partAt, hasEntries}
 use Rattle.packet.proofs.Each.{each-kind}
 use Rattle.packet.proofs.Good.{good}

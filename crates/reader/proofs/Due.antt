@@ -2,7 +2,7 @@
 use mathlib.Core.Path.{_≡_, refl, sym, ap, subst, _∙_}
 use mathlib.Core.Bool.{Bool, true, false, not, _&&_, _||_}
 use mathlib.Core.List.{List, [], _∷_}
-use Prim.Native.Nat.{ℕ, _+_, _*_, _-_, _<_, _≤_}
+use Prim.Native.Nat.{ℕ, _+_, _*_, _<_, _≤_}
 use native.Mathlib.Decide.{decLt}
 use native.Mathlib.Omega.{arith}
 use lib.ListN.{length, getD, drop, drop-of-length-le, List·getD-eq-default}
@@ -13,9 +13,8 @@ use Rattle.laws.specs.Scan.{all}
 use Rattle.laws.proofs.Cases.{if-yes, if-no, and-yes, and-no, or-no, and-both}
 use Rattle.laws.proofs.Elements.{by-test, all-at}
 use Rattle.format.specs.declared.Line.{Line}
-use Rattle.format.specs.Format.{octets, times, size, decode, lineOk, fine, unmet}
+use Rattle.format.specs.Format.{octets, times, decode, lineOk, fine, unmet}
 use Rattle.packet.specs.InCode.{linesOfEach, everyLine}
-use Rattle.packet.proofs.Loops as laws
 use Rattle.packet.proofs.Loops.{lines-cons, rows-unmet}
 use Rattle.reader.specs.Due.{asked, plain, asks, passing, lesser, Judged}
 
@@ -126,22 +125,10 @@ module _ (T : List Line) (j : ℕ) (d t : Line) (h : j < length T) (e : t ≡ ge
       going-turn (λ (k : ℕ). fine k T (decode T l p)) (λ (k : ℕ). fine k (drop j T) (decode (drop j T) l q)) (λ (k : ℕ). lineOk k t (run l q (t .count) (t .width)))
       (λ (k : ℕ). fine k (drop (j + 1) T) (decode (drop (j + 1) T) l (q + w))) a r m g i (λ k. rw (lines-cons T j d t h e, ew)) x
 
-  pub plain-no : (x : Bool) → x ≡ all plain (drop j T) → (t .answer ≡ 0 → ⊥) → false ≡ x
-  unfolding all
-  plain-no x f g = sym (f ∙ rw (lines-cons T j d t h e, ne-eqb (t .answer) 0 g))
-
-  pub plain-turn : (x : Bool) → x ≡ all plain (drop j T) → t .answer ≡ 0 → x ≡ all plain (drop (j + 1) T)
-  unfolding all
-  plain-turn x f g = f ∙ rw (lines-cons T j d t h e, eq-eqb (t .answer) 0 g)
-
 module _ (T : List Line) (j : ℕ) (h : length T ≤ j) where
   pub lines-last : (l : List ℕ) (p q a : ℕ) → Going (λ (k : ℕ). fine k T (decode T l p)) (λ (k : ℕ). fine k (drop j T) (decode (drop j T) l q)) a → Judged (λ (k : ℕ). fine k T (decode T l p)) a
   unfolding fine decode
   lines-last l p q a g = going-last (λ (k : ℕ). fine k T (decode T l p)) (λ (k : ℕ). fine k (drop j T) (decode (drop j T) l q)) a g (λ k. rw (drop-of-length-le T h))
-
-  pub plain-done : (x : Bool) → x ≡ all plain (drop j T) → true ≡ x
-  unfolding all
-  plain-done x f = sym (f ∙ rw (drop-of-length-le T h))
 
 -- ---- rows of lines
 pub plain-unmet : (k : ℕ) (ts : List Line) → asked k ≡ true → all plain ts ≡ true → all (unmet k) ts ≡ true
@@ -153,17 +140,3 @@ plain-unmet k (t ∷ ts) a h =
 
 pub rows-plain : (n : ℕ) (row : List Line) (l : List ℕ) (q : ℕ) → all plain row ≡ true → Judged (λ (k : ℕ). fine k (times n row) (decode (times n row) l q)) 255
 rows-plain n row l q h = none-due (λ (k : ℕ). fine k (times n row) (decode (times n row) l q)) (λ k a. rows-unmet k n row l q (plain-unmet k row a h))
-
-pub rows-turn : (n j : ℕ) (row : List Line) (l : List ℕ) (p q s : ℕ) → j < n → s ≡ size row → (a r m : ℕ)
-    → Going (λ (k : ℕ). fine k (times n row) (decode (times n row) l p)) (λ (k : ℕ). fine k (times (n - j) row) (decode (times (n - j) row) l q)) a
-    → Judged (λ (k : ℕ). fine k row (decode row l q)) r → m ≡ lesser a r
-    → Going (λ (k : ℕ). fine k (times n row) (decode (times n row) l p)) (λ (k : ℕ). fine k (times (n - (j + 1)) row) (decode (times (n - (j + 1)) row) l (q + s))) m
-rows-turn n j row l p q s h e a r m g i x =
-    going-turn (λ (k : ℕ). fine k (times n row) (decode (times n row) l p)) (λ (k : ℕ). fine k (times (n - j) row) (decode (times (n - j) row) l q)) (λ (k : ℕ). fine k row (decode row l q))
-    (λ (k : ℕ). fine k (times (n - (j + 1)) row) (decode (times (n - (j + 1)) row) l (q + s))) a r m g i (λ k. laws.rows-turn k n j row l q s h e) x
-
-pub rows-last : (n j : ℕ) (row : List Line) (l : List ℕ) (p q a : ℕ) → n ≤ j
-    → Going (λ (k : ℕ). fine k (times n row) (decode (times n row) l p)) (λ (k : ℕ). fine k (times (n - j) row) (decode (times (n - j) row) l q)) a
-    → Judged (λ (k : ℕ). fine k (times n row) (decode (times n row) l p)) a
-rows-last n j row l p q a h g =
-    going-last (λ (k : ℕ). fine k (times n row) (decode (times n row) l p)) (λ (k : ℕ). fine k (times (n - j) row) (decode (times (n - j) row) l q)) a g (λ k. laws.rows-done k n j row l q h)

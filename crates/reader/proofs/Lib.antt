@@ -1,4 +1,4 @@
-pub mod Rows
+pub mod Zeros
 pub mod Taking
 pub mod Whole
 pub mod Due

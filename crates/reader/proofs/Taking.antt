@@ -7,7 +7,7 @@ use native.Mathlib.Nat.{pow-le-pow-right, lt-of-lt-of-le, mod-eq-of-lt, zero-mul
 use native.Mathlib.Numerals.{add-one}
 use native.Mathlib.Omega.{arith}
 use lib.Dec.{leb}
-use lib.ListN.{length, getD, take, drop, replicate, length-append, length-replicate, drop-of-length-le, take-append-drop, List·getD-append}
+use lib.ListN.{length, getD, drop, replicate, length-append, length-replicate, drop-of-length-le, take-append-drop, List·getD-append}
 use lib.Seq.{sets, drop-cons, drop-at}
 use borrow.Author.Tests.{leb-true, lt-ltb}
 use Rattle.laws.specs.Bits.{run, bits, Under}

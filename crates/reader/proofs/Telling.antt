@@ -1,8 +1,8 @@
 -- A packet whose sizes are right: what its parts ask, what they are due together, and what it says. Assumes nothing.
 use mathlib.Core.Path.{_≡_, refl, sym, ap, ap₂, subst, _∙_}
 use mathlib.Core.Bool.{Bool, true, false, not, cond, _&&_}
-use mathlib.Core.List.{List, [], _++_}
-use Prim.Native.Nat.{ℕ, zero, suc, _+_, _-_, _*_, _%_, _<_, _≤_}
+use mathlib.Core.List.{List, []}
+use Prim.Native.Nat.{ℕ, zero, suc, _+_, _-_, _*_, _<_, _≤_}
 use native.Mathlib.Omega.{arith}
 use lib.ListN.{length, drop}
 use lib.Seq.{sets}
@@ -13,7 +13,7 @@ use Rattle.laws.proofs.Bits.{length-run}
 use Rattle.laws.specs.Refusals.{first}
 use Rattle.laws.proofs.Cases.{if-yes, if-no, or-yes, or-no}
 use Rattle.laws.proofs.Elements.{by-test}
-use Rattle.format.specs.Format.{any, digits, octets, times, size, inside, decode, fine, lineOk}
+use Rattle.format.specs.Format.{digits, times, size, inside, decode, fine}
 use Rattle.packet.specs.declared.Kind.{Kind}
 use Rattle.packet.specs.declared.Content.{Content}
 use Rattle.packet.specs.declared.Fields.{Fields}
@@ -21,14 +21,14 @@ use Rattle.packet.specs.declared.Opened.{Opened}
 use Rattle.packet.specs.declared.RowLines.{RowLines}
 use Rattle.packet.specs.declared.Sizes.{Sizes}
 use Rattle.packet.specs.Table.{rowOf, code, ending, contentLines}
-use Rattle.packet.specs.Content.{contentOf, numbersIn, noSuchDay}
-use Rattle.packet.specs.Reading.{readAnswer, opened, openedBy, refusedAs, typeIn, fieldsOf, codesIn, kindIn, contentAt, contentSize, countOf, partAt, numbersAt, frontIn, bodyIn, backIn, contentIn, digitsIn, codesOf, zeros, padded, hasEntries, tableOf, valuesIn, readCases}
+use Rattle.packet.specs.Content.{contentOf, noSuchDay}
+use Rattle.packet.specs.Reading.{readAnswer, opened, openedBy, refusedAs, typeIn, fieldsOf, codesIn, kindIn, numbersAt, frontIn, bodyIn, backIn, contentIn, digitsIn, codesOf, zeros, padded, hasEntries, tableOf, valuesIn, readCases}
 use Rattle.packet.proofs.Column.{content-size}
 use Rattle.packet.proofs.Refused.{not-opened}
 use Rattle.reader.specs.Due.{asked, passing, lesser, Judged}
 use Rattle.reader.specs.Taking.{Holding, Beside, Right}
 use Rattle.reader.proofs.Due.{both, judged-same, line-fine, line-due, asked-some, asked-not, asked-cases}
-use Rattle.reader.proofs.Rows.{full}
+use Rattle.reader.proofs.Zeros.{full}
 use Rattle.reader.proofs.Whole as whole
 
 -- ---- the answer by what the lines are due

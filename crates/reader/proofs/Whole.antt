@@ -25,7 +25,7 @@ use Rattle.packet.specs.declared.Sizes.{Sizes}
 use Rattle.packet.proofs.Good.{good}
 use Rattle.packet.specs.Reading.{isUnknown, sizesOf, lengthIn, codesIn, kindIn, contentAt, contentSize, countOf, partAt, tableOf, valuesIn, sizeBad, lengthBad, fieldBad, readCases, readAnswer, textAnswer, textOf, bodyOf, hasEntries}
 use Rattle.packet.proofs.ByType.{below-not}
-use Rattle.reader.proofs.Rows.{lead-is}
+use Rattle.reader.proofs.Zeros.{lead-is}
 use Rattle.packet.proofs.Column.{count-size, content-size, column}
 use Rattle.packet.proofs.Accepted.{no-size}
 pub use Rattle.packet.proofs.Accepted.{Sized, sized, Accepted, accepted, right-size, text-there, text-from, text-inside, body-inside, later, later-not, text-later}

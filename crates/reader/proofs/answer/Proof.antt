@@ -1,6 +1,5 @@
 -- `reader::answer` meets its contract. Assumes nothing.
-use mathlib.Core.Path.{_≡_, refl, sym, ap, _∙_}
-use native.Mathlib.Omega.{arith}
+use mathlib.Core.Path.{ap, _∙_}
 use denote.Ref.{now}
 use Rattle.packet.specs.declared.Opened.{Opened}
 use Rattle.reader.proofs.Telling.{answered}

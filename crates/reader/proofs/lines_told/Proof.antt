@@ -4,17 +4,17 @@ use native.Mathlib.Omega.{arith}
 use denote.Ref.{now}
 use mathlib.Core.Bool.{cond}
 use mathlib.Core.List.{List, []}
-use Prim.Native.Nat.{ℕ, _+_, _-_, _*_, _≤_}
+use Prim.Native.Nat.{ℕ, _+_, _*_}
 use lib.ListN.{length, drop}
 use lib.Seq.{sets, length-sets}
 use Rattle.laws.specs.Refusals.{first}
 use Rattle.packet.specs.Content.{noSuchDay}
 use Rattle.format.specs.Format.{times}
 use Rattle.packet.specs.Table.{rowOf, code}
-use Rattle.packet.specs.Reading.{partAt, numbersAt, hasEntries, zeros, padded, codesOf, readCases}
+use Rattle.packet.specs.Reading.{partAt, numbersAt, hasEntries, zeros, readCases}
 use Rattle.reader.specs.declared.Told.{Told}
 use Rattle.reader.specs.Due.{lesser}
-use Rattle.reader.proofs.Rows.{kept, length-zeros}
+use Rattle.reader.proofs.Zeros.{kept, length-zeros}
 use Rattle.reader.proofs.Telling as telling
 use borrow.Author.Needs.{needs}
 use Rattle.reader.proofs.lines_told.Statement.{statement}

@@ -1,10 +1,8 @@
 -- `reader::read` meets its contract. Assumes nothing.
-use mathlib.Core.Path.{_≡_, refl, sym, ap, _∙_}
-use native.Mathlib.Omega.{arith}
+use mathlib.Core.Path.{sym}
 use denote.Ref.{now}
-use Rattle.packet.specs.declared.Opened.{Opened}
 use Rattle.packet.specs.Reading.{opened}
-use Rattle.reader.proofs.Rows.{length-zeros}
+use Rattle.reader.proofs.Zeros.{length-zeros}
 use Rattle.reader.proofs.Telling.{opened-of}
 use borrow.Author.Needs.{needs}
 use Rattle.reader.proofs.read.Statement.{statement}

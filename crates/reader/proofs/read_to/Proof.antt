@@ -1,15 +1,14 @@
 -- `reader::read_to` meets its contract. Assumes nothing.
-use mathlib.Core.Path.{_≡_, refl, sym, ap, _∙_}
+use mathlib.Core.Path.{_≡_, sym, ap, _∙_}
 use native.Mathlib.Omega.{arith}
 use denote.Ref.{now}
 use mathlib.Core.Bool.{false}
-use Prim.Native.Nat.{ℕ, _+_, _*_, _<_, _≤_}
-use lib.ListN.{length}
+use Prim.Native.Nat.{ℕ, _+_, _*_}
 use Rattle.packet.specs.declared.Opened.{Opened}
 use Rattle.packet.specs.Reading.{kindIn, countOf, unknownBy, isUnknown, sizeBad, lengthBad, readAnswer, zeros}
 use Rattle.packet.proofs.Spans.{stands}
 use Rattle.reader.specs.declared.Told.{Told}
-use Rattle.reader.proofs.Rows.{length-zeros}
+use Rattle.reader.proofs.Zeros.{length-zeros}
 use Rattle.reader.proofs.Telling as telling
 use Rattle.reader.proofs.Whole as whole
 use borrow.Author.Needs.{needs}

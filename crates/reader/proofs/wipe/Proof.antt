@@ -8,7 +8,7 @@ use denote.Ref.{now}
 use borrow.Author.Needs.{needs}
 use Rattle.laws.proofs.Writes.{put-turn, put-done}
 use Rattle.packet.specs.Reading.{zeros}
-use Rattle.reader.proofs.Rows.{length-zeros}
+use Rattle.reader.proofs.Zeros.{length-zeros}
 use Rattle.reader.proofs.Leaves.{over-all, zeros-at}
 use Rattle.reader.proofs.wipe.Statement.{statement}
 use Rattle.reader.proofs.wipe.Tie as tie

@@ -1,6 +1,5 @@
 -- `reader::columns::keep` meets its contract. Assumes nothing.
-use mathlib.Core.Path.{_≡_, refl, sym, ap, _∙_}
-use native.Mathlib.Omega.{arith}
+use mathlib.Core.Path.{sym, ap, _∙_}
 use denote.Ref.{now}
 use mathlib.Core.List.{[], _∷_}
 use lib.ListN.{length, length-set}

@@ -5,16 +5,15 @@ use denote.Ref.{now}
 use mathlib.Core.List.{List, [], _∷_}
 use mathlib.Core.Bool.{Bool, true, false, cond, _&&_}
 use Prim.Native.Nat.{ℕ, _≤_, _<_}
-use lib.ListN.{length}
-use lib.Seq.{sets, length-sets}
+use lib.Seq.{sets}
 use lib.Dec.{leb}
 use borrow.Author.Tests.{le-leb, lt-leb}
 use Rattle.laws.specs.Bits.{at, run, bits}
-use Rattle.laws.proofs.Cases.{if-yes, and-yes, and-no}
+use Rattle.laws.proofs.Cases.{if-yes}
 use Rattle.format.specs.declared.Line.{Line}
 use Rattle.format.specs.Format.{inside}
 use Rattle.format.proofs.Leaves.{reached}
-use Rattle.reader.proofs.Rows.{kept}
+use Rattle.reader.proofs.Zeros.{kept}
 use borrow.Author.Needs.{needs}
 use Rattle.reader.proofs.columns.take_number.Statement.{statement}
 use Rattle.reader.proofs.columns.take_number.Tie as tie

@@ -9,7 +9,7 @@ use lib.ListN.{length, take, drop}
 use lib.Seq.{sets, length-sets, take-all}
 use denote.Ref.{now}
 use borrow.Author.Tests.{eqb-true}
-use Rattle.laws.specs.Bits.{run, bits}
+use Rattle.laws.specs.Bits.{bits}
 use Rattle.laws.proofs.Elements.{all-at}
 use Rattle.format.specs.declared.Line.{Line}
 use Rattle.format.specs.Format.{octets, size, need, decode, fine}

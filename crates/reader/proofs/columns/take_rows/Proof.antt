@@ -16,7 +16,6 @@ use Rattle.packet.specs.InCode.{everyLine, linesIn}
 use Rattle.packet.specs.Reading.{numbersAt}
 use Rattle.packet.proofs.Loops as laws
 use Rattle.reader.specs.Due.{asks}
-use Rattle.reader.specs.Taking.{ownAt}
 use Rattle.reader.proofs.Due.{Going, going-first, asks-at}
 use Rattle.reader.proofs.Taking.{own-few}
 use Rattle.reader.proofs.ByColumns as columns

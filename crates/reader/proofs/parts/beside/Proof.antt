@@ -1,9 +1,7 @@
 -- `reader::parts::beside` meets its contract. Assumes nothing.
-use mathlib.Core.Path.{_≡_, refl, sym, ap, _∙_}
+use mathlib.Core.Path.{refl}
 use native.Mathlib.Omega.{arith}
-use denote.Ref.{now}
 use Rattle.packet.proofs.Loops.{every-few}
-use borrow.Author.Needs.{needs}
 use Rattle.reader.proofs.parts.beside.Statement.{statement}
 use Rattle.reader.proofs.parts.beside.Tie as tie
 

@@ -11,7 +11,7 @@ use Rattle.laws.specs.Bits.{bits, run}
 use Rattle.laws.proofs.Bits.{length-run}
 use Rattle.format.proofs.Leaves.{store-done}
 use Rattle.format.proofs.Halves.{octets-store}
-use Rattle.reader.proofs.Rows.{full}
+use Rattle.reader.proofs.Zeros.{full}
 use Rattle.reader.proofs.parts.signature.Statement.{statement}
 use Rattle.reader.proofs.parts.signature.Tie as tie
 

@@ -1,18 +1,16 @@
 -- `reader::parts::take_codes` meets its contract. Assumes nothing.
 use mathlib.Core.Path.{_≡_, refl, sym, ap, _∙_}
-use mathlib.Core.Bool.{Bool, true, false, not, _&&_}
+use mathlib.Core.Bool.{true, false, _&&_}
 use mathlib.Core.List.{List, [], _∷_}
 use Prim.Native.Nat.{ℕ, _<_, _≤_, _-_, _+_, _*_, _/_}
 use native.Mathlib.Omega.{arith}
 use lib.ListN.{length, getD}
-use lib.Dec.{leb}
-use lib.Seq.{sets, length-sets}
+use lib.Seq.{length-sets}
 use denote.Ref.{now}
 use borrow.Author.Needs.{needs}
 use borrow.Author.Tests.{le-leb, lt-leb, not-true, not-false}
 use Rattle.laws.specs.Bits.{at, bits, run}
 use Rattle.laws.specs.Strips.{strips, every}
-use Rattle.laws.proofs.Cases.{and-yes, and-no}
 use Rattle.laws.proofs.Elements.{by-test}
 use Rattle.format.specs.Format.{ones, digits, inside}
 use Rattle.format.proofs.Halves.{high-half}

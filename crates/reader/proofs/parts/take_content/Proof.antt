@@ -4,7 +4,7 @@ use native.Mathlib.Omega.{arith}
 use denote.Ref.{now}
 use mathlib.Core.List.{List, [], _++_}
 use mathlib.Core.Bool.{cond}
-use Prim.Native.Nat.{ℕ, _+_, _-_, _*_, _/_, _≤_}
+use Prim.Native.Nat.{ℕ, _+_, _-_, _*_, _/_}
 use lib.ListN.{length, take, drop}
 use lib.Seq.{length-sets}
 use lib.Dec.{ltb}
@@ -22,7 +22,7 @@ use Rattle.packet.proofs.Good.{good}
 use Rattle.packet.proofs.Spans.{parted, stands}
 use Rattle.reader.specs.Due.{lesser}
 use Rattle.reader.proofs.Contents as contents
-use Rattle.reader.proofs.Rows.{kept, length-zeros}
+use Rattle.reader.proofs.Zeros.{kept, length-zeros}
 use Rattle.reader.proofs.Taking as taking
 use Rattle.reader.proofs.Whole as whole
 use borrow.Author.Needs.{needs}

@@ -1,9 +1,9 @@
 -- `reader::parts::take_entries` meets its contract. Assumes nothing.
-use mathlib.Core.Path.{_≡_, refl, sym, ap, _∙_}
+use mathlib.Core.Path.{_≡_, sym, ap, _∙_}
 use native.Mathlib.Omega.{arith}
 use denote.Ref.{now}
-use mathlib.Core.List.{List, []}
-use Prim.Native.Nat.{ℕ, _+_, _*_, _/_, _%_}
+use mathlib.Core.List.{[]}
+use Prim.Native.Nat.{ℕ, _+_, _*_, _/_}
 use lib.ListN.{length}
 use lib.Seq.{sets}
 use borrow.Author.Tests.{lt-ltb, le-ltb}
@@ -15,7 +15,6 @@ use Rattle.packet.specs.InCode.{linesIn}
 use Rattle.packet.specs.Reading.{numbersAt}
 use Rattle.reader.proofs.Due.{rows-plain}
 use Rattle.reader.proofs.ByColumns as columns
-use borrow.Author.Needs.{needs}
 use Rattle.reader.proofs.parts.take_entries.Statement.{statement}
 use Rattle.reader.proofs.parts.take_entries.Tie as tie
 

@@ -1,9 +1,7 @@
 -- `reader::refusals::length_bad` meets its contract. Assumes nothing.
-use mathlib.Core.Path.{_≡_, refl, sym, ap, _∙_}
+use mathlib.Core.Path.{refl}
 use native.Mathlib.Omega.{arith}
-use denote.Ref.{now}
 use Rattle.reader.proofs.Whole as whole
-use borrow.Author.Needs.{needs}
 use Rattle.reader.proofs.refusals.length_bad.Statement.{statement}
 use Rattle.reader.proofs.refusals.length_bad.Tie as tie
 

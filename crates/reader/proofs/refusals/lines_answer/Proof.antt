@@ -1,10 +1,7 @@
 -- `reader::refusals::lines_answer` meets its contract. Assumes nothing.
-use mathlib.Core.Path.{_≡_, refl, sym, ap, _∙_}
-use native.Mathlib.Omega.{arith}
-use denote.Ref.{now}
+use mathlib.Core.Path.{sym, _∙_}
 use borrow.Author.Tests.{eq-eqb, ne-eqb}
 use Rattle.laws.proofs.Cases.{if-yes, if-no}
-use borrow.Author.Needs.{needs}
 use Rattle.reader.proofs.refusals.lines_answer.Statement.{statement}
 use Rattle.reader.proofs.refusals.lines_answer.Tie as tie
 
