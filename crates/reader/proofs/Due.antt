@@ -2,7 +2,7 @@
 use mathlib.Core.Path.{_≡_, refl, sym, ap, subst, _∙_}
 use mathlib.Core.Bool.{Bool, true, false, not, _&&_, _||_}
 use mathlib.Core.List.{List, [], _∷_}
-use Prim.Native.Nat.{ℕ, _+_, _*_, _-_, _<_, _≤_}
+use Prim.Native.Nat.{ℕ, _+_, _*_, _<_, _≤_}
 use native.Mathlib.Decide.{decLt}
 use native.Mathlib.Omega.{arith}
 use lib.ListN.{length, getD, drop, drop-of-length-le, List·getD-eq-default}
@@ -13,11 +13,10 @@ use Rattle.laws.specs.Scan.{all}
 use Rattle.laws.proofs.Cases.{if-yes, if-no, and-yes, and-no, or-no, and-both}
 use Rattle.laws.proofs.Elements.{by-test, all-at}
 use Rattle.format.specs.declared.Line.{Line}
-use Rattle.format.specs.Format.{octets, times, size, decode, lineOk, fine, unmet}
+use Rattle.format.specs.Format.{octets, times, decode, lineOk, fine, unmet}
 use Rattle.packet.specs.InCode.{linesOfEach, everyLine}
-use Rattle.packet.proofs.Loops as laws
 use Rattle.packet.proofs.Loops.{lines-cons, rows-unmet}
-use Rattle.reader.specs.Due.{asked, plain, asks, lesser, Judged}
+use Rattle.reader.specs.Due.{asked, plain, asks, passing, lesser, Judged}
 
 -- ---- parts behind each other: F is the whole, G what is still to come
 pub record Going (F G : ℕ → Bool) (d : ℕ) : Type 0 where
@@ -73,6 +72,9 @@ both F H W r s e f h w x = by-test (ltb s r) less more
           due = λ m. let z = f .due m in (z .0, w r (z .0) ∙ and-no (H r) (z .1));
         })
 
+pub judged-same : (F G : ℕ → Bool) (r : ℕ) → ((k : ℕ) → asked k ≡ true → F k ≡ G k) → Judged F r → Judged G r
+judged-same F G r e j = record { fine = λ k a l. sym (e k a) ∙ j .fine k a l; due = λ l. let y = j .due l in (y .0, sym (e r (y .0)) ∙ y .1) }
+
 pub none-due : (F : ℕ → Bool) → ((k : ℕ) → asked k ≡ true → F k ≡ true) → Judged F 255
 none-due F e = record { fine = λ k a l. e k a; due = λ l. absurd (omega arith) }
 
@@ -82,26 +84,24 @@ asked-cases k a x y z =
     by-test (eqb k 24) (λ e. x (eqb-true k 24 e))
     (λ e. by-test (eqb k 25) (λ f. y (eqb-true k 25 f)) (λ f. z (eqb-true k 27 (sym (or-no (eqb k 27) f) ∙ (sym (or-no (eqb k 25 || eqb k 27) e) ∙ a)))))
 
-asked-some : (k : ℕ) → asked k ≡ true → k ≡ 0 → ⊥
+pub asked-some : (k : ℕ) → asked k ≡ true → k ≡ 0 → ⊥
 asked-some k a e = asked-cases k a (λ x. omega arith) (λ x. omega arith) (λ x. omega arith)
 
 pub asked-not : (k : ℕ) → asked k ≡ true → k ≡ 26 → ⊥
 asked-not k a e = asked-cases k a (λ x. omega arith) (λ x. omega arith) (λ x. omega arith)
 
-module _ (t : Line) (v : List ℕ) where
-  pub line-none : t .answer ≡ 0 → Judged (λ (k : ℕ). lineOk k t v) 255
-  line-none e = none-due (λ (k : ℕ). lineOk k t v) (λ k a. if-no _ _ (ne-eqb (t .answer) k (λ x. asked-some k a (sym x ∙ e))))
+module _ (t : Line) (x : Bool) where
+  pub line-none : t .answer ≡ 0 → Judged (passing t x) 255
+  line-none e = none-due (passing t x) (λ k a. if-no _ _ (ne-eqb (t .answer) k (λ y. asked-some k a (sym y ∙ e))))
 
-  pub line-fine : lineOk (t .answer) t v ≡ true → Judged (λ (k : ℕ). lineOk k t v) 255
-  line-fine e =
-      none-due (λ (k : ℕ). lineOk k t v)
-      (λ k a. by-test (eqb (t .answer) k) (λ x. subst (λ (n : ℕ). lineOk n t v ≡ true) (eqb-true (t .answer) k x) e) (λ x. if-no _ _ x))
+  pub line-fine : x ≡ true → Judged (passing t x) 255
+  line-fine e = none-due (passing t x) (λ k a. by-test (eqb (t .answer) k) (λ y. if-yes x true y ∙ e) (λ y. if-no x true y))
 
-  pub line-due : asks t ≡ true → (t .answer ≡ 0 → ⊥) → lineOk (t .answer) t v ≡ false → Judged (λ (k : ℕ). lineOk k t v) (t .answer)
+  pub line-due : asks t ≡ true → (t .answer ≡ 0 → ⊥) → x ≡ false → Judged (passing t x) (t .answer)
   line-due q n e =
       record {
-        fine = λ k a l. if-no _ _ (ne-eqb (t .answer) k (λ x. absurd (omega arith)));
-        due = λ l. (sym (or-no _ (ne-eqb (t .answer) 0 n)) ∙ q, e);
+        fine = λ k a l. if-no _ _ (ne-eqb (t .answer) k (λ y. absurd (omega arith)));
+        due = λ l. (sym (or-no _ (ne-eqb (t .answer) 0 n)) ∙ q, if-yes x true (eq-eqb (t .answer) (t .answer) refl) ∙ e);
       }
 
 -- every line of the table asks so, and so does what stands past the last
@@ -125,22 +125,10 @@ module _ (T : List Line) (j : ℕ) (d t : Line) (h : j < length T) (e : t ≡ ge
       going-turn (λ (k : ℕ). fine k T (decode T l p)) (λ (k : ℕ). fine k (drop j T) (decode (drop j T) l q)) (λ (k : ℕ). lineOk k t (run l q (t .count) (t .width)))
       (λ (k : ℕ). fine k (drop (j + 1) T) (decode (drop (j + 1) T) l (q + w))) a r m g i (λ k. rw (lines-cons T j d t h e, ew)) x
 
-  pub plain-no : (x : Bool) → x ≡ all plain (drop j T) → (t .answer ≡ 0 → ⊥) → false ≡ x
-  unfolding all
-  plain-no x f g = sym (f ∙ rw (lines-cons T j d t h e, ne-eqb (t .answer) 0 g))
-
-  pub plain-turn : (x : Bool) → x ≡ all plain (drop j T) → t .answer ≡ 0 → x ≡ all plain (drop (j + 1) T)
-  unfolding all
-  plain-turn x f g = f ∙ rw (lines-cons T j d t h e, eq-eqb (t .answer) 0 g)
-
 module _ (T : List Line) (j : ℕ) (h : length T ≤ j) where
   pub lines-last : (l : List ℕ) (p q a : ℕ) → Going (λ (k : ℕ). fine k T (decode T l p)) (λ (k : ℕ). fine k (drop j T) (decode (drop j T) l q)) a → Judged (λ (k : ℕ). fine k T (decode T l p)) a
   unfolding fine decode
   lines-last l p q a g = going-last (λ (k : ℕ). fine k T (decode T l p)) (λ (k : ℕ). fine k (drop j T) (decode (drop j T) l q)) a g (λ k. rw (drop-of-length-le T h))
-
-  pub plain-done : (x : Bool) → x ≡ all plain (drop j T) → true ≡ x
-  unfolding all
-  plain-done x f = sym (f ∙ rw (drop-of-length-le T h))
 
 -- ---- rows of lines
 pub plain-unmet : (k : ℕ) (ts : List Line) → asked k ≡ true → all plain ts ≡ true → all (unmet k) ts ≡ true
@@ -152,17 +140,3 @@ plain-unmet k (t ∷ ts) a h =
 
 pub rows-plain : (n : ℕ) (row : List Line) (l : List ℕ) (q : ℕ) → all plain row ≡ true → Judged (λ (k : ℕ). fine k (times n row) (decode (times n row) l q)) 255
 rows-plain n row l q h = none-due (λ (k : ℕ). fine k (times n row) (decode (times n row) l q)) (λ k a. rows-unmet k n row l q (plain-unmet k row a h))
-
-pub rows-turn : (n j : ℕ) (row : List Line) (l : List ℕ) (p q s : ℕ) → j < n → s ≡ size row → (a r m : ℕ)
-    → Going (λ (k : ℕ). fine k (times n row) (decode (times n row) l p)) (λ (k : ℕ). fine k (times (n - j) row) (decode (times (n - j) row) l q)) a
-    → Judged (λ (k : ℕ). fine k row (decode row l q)) r → m ≡ lesser a r
-    → Going (λ (k : ℕ). fine k (times n row) (decode (times n row) l p)) (λ (k : ℕ). fine k (times (n - (j + 1)) row) (decode (times (n - (j + 1)) row) l (q + s))) m
-rows-turn n j row l p q s h e a r m g i x =
-    going-turn (λ (k : ℕ). fine k (times n row) (decode (times n row) l p)) (λ (k : ℕ). fine k (times (n - j) row) (decode (times (n - j) row) l q)) (λ (k : ℕ). fine k row (decode row l q))
-    (λ (k : ℕ). fine k (times (n - (j + 1)) row) (decode (times (n - (j + 1)) row) l (q + s))) a r m g i (λ k. laws.rows-turn k n j row l q s h e) x
-
-pub rows-last : (n j : ℕ) (row : List Line) (l : List ℕ) (p q a : ℕ) → n ≤ j
-    → Going (λ (k : ℕ). fine k (times n row) (decode (times n row) l p)) (λ (k : ℕ). fine k (times (n - j) row) (decode (times (n - j) row) l q)) a
-    → Judged (λ (k : ℕ). fine k (times n row) (decode (times n row) l p)) a
-rows-last n j row l p q a h g =
-    going-last (λ (k : ℕ). fine k (times n row) (decode (times n row) l p)) (λ (k : ℕ). fine k (times (n - j) row) (decode (times (n - j) row) l q)) a g (λ k. laws.rows-done k n j row l q h)

@@ -1,39 +1,45 @@
--- Numbers taken by lines into an array: how the loop over lines goes on, how wide the numbers are, and what stands in the array. Assumes nothing.
-use mathlib.Core.Path.{_≡_, refl, sym, ap, ap₂, _∙_, subst}
+-- Numbers taken by lines: how the loop over lines of one number goes on, how wide numbers are, and what a content has of them. Assumes nothing.
+use mathlib.Core.Path.{_≡_, refl, sym, ap, ap₂, _∙_}
 use mathlib.Core.List.{List, [], _∷_, _++_}
-use mathlib.Core.Bool.{Bool, true, false, cond, _&&_}
-use Prim.Native.Nat.{ℕ, zero, suc, _+_, _*_, _-_, _^_, _<_, _≤_}
-use native.Mathlib.Nat.{pow-le-pow-right, lt-of-lt-of-le, mod-eq-of-lt}
+use mathlib.Core.Bool.{Bool, true, false, cond}
+use Prim.Native.Nat.{ℕ, zero, suc, _+_, _*_, _-_, _%_, _^_, _<_, _≤_}
+use native.Mathlib.Nat.{pow-le-pow-right, lt-of-lt-of-le, mod-eq-of-lt, zero-mul}
 use native.Mathlib.Numerals.{add-one}
 use native.Mathlib.Omega.{arith}
 use lib.Dec.{leb}
-use lib.ListN.{length, getD, take, drop, replicate, length-append, length-replicate, length-drop, drop-of-length-le}
-use lib.Seq.{sets, length-sets, drop-cons, getD-drop, take-at, drop-append-le}
-use borrow.Author.Tests.{leb-true}
+use lib.ListN.{length, getD, drop, replicate, length-append, length-replicate, drop-of-length-le, take-append-drop, List·getD-append}
+use lib.Seq.{sets, drop-cons, drop-at}
+use borrow.Author.Tests.{leb-true, lt-ltb}
 use Rattle.laws.specs.Bits.{run, bits, Under}
 use Rattle.laws.specs.Scan.{all}
+use Rattle.laws.specs.Strips.{strips}
 use Rattle.laws.proofs.Bits.{at-below, length-run, under-spread}
 use Rattle.laws.proofs.Cases.{and-both}
-use Rattle.laws.proofs.Writes.{sets-append, from-front}
+use Rattle.laws.proofs.Elements.{by-test}
+use Rattle.laws.proofs.Writes.{sets-append, from-front, join}
 use Rattle.format.specs.declared.Line.{Line}
-use Rattle.format.specs.Format.{own, need, decode, flat, sound}
-use Rattle.format.proofs.Tables.{length-flat}
+use Rattle.format.specs.Format.{own, size, need, decode, flat, sound}
 use Rattle.format.proofs.Sound.{sound-is}
+use Rattle.format.proofs.Tables.{flat-append, length-flat}
 use Rattle.packet.specs.declared.Kind.{Kind}
 use Rattle.packet.specs.declared.Content.{Content}
-use Rattle.packet.specs.declared.Laid.{Laid}
-use Rattle.packet.specs.Table.{kinds, rowOf}
-use Rattle.packet.specs.Content.{contentOf, numbersOf, numbersIn}
-use Rattle.packet.specs.Reading.{numbersAt, zeros, padded}
-use Rattle.packet.specs.InCode.{laidOf, widths, room, cut, namedBy}
+use Rattle.packet.specs.Table.{kinds, rowOf, countBy}
+use Rattle.packet.specs.Content.{Parts, contentOf, numbersIn}
+use Rattle.packet.specs.Reading.{isUnknown, numbersAt, zeros, padded}
+use Rattle.packet.specs.InCode.{ownLines, ownOf, besideOf, widths, room, cut, namedBy}
 use Rattle.packet.proofs.Each.{each-kind}
 use Rattle.packet.proofs.Good.{good}
-use Rattle.packet.proofs.Contents.{length-back}
-use Rattle.reader.specs.Taking.{ownAt, Held, ofByte, Digits}
-use Rattle.reader.proofs.Rows.{length-zeros}
+use Rattle.packet.proofs.Columns.{columned}
+use Rattle.packet.proofs.Contents.{content-back, parts-back, listed, cut-at}
+use Rattle.reader.specs.Taking.{ownAt}
+
+-- one row of pieces
+pub once : (o : List ℕ) (i w : ℕ) (f : ℕ → List ℕ) → strips o i w 1 f ≡ sets o i (f 0)
+unfolding strips
+once o i w f = ap (λ (x : ℕ). sets o x (f 0)) (omega (arith, zero-mul w))
 
 -- ---- lines taken one after the other
-length-own : (t : Line) (b : List ℕ) (p : ℕ) → length (ownAt t b p) ≡ own t
+pub length-own : (t : Line) (b : List ℕ) (p : ℕ) → length (ownAt t b p) ≡ own t
 length-own t b p = part (t .given) refl
   where
     part : (x : Bool) → t .given ≡ x → length (ownAt t b p) ≡ own t
@@ -77,6 +83,10 @@ held-append (x ∷ xs) ys [] ws n h k i = absurd (omega arith)
 held-append (x ∷ xs) ys (v ∷ vs) ws n h k zero = h 0
 held-append (x ∷ xs) ys (v ∷ vs) ws n h k (suc i) = held-append xs ys vs ws (omega arith) (λ j. h (suc j)) k i
 
+-- numbers of which none has more bits than its line says
+abbrev Held : List Line → List ℕ → Type 0
+Held ts xs = (i : ℕ) → getD xs i 0 < 2 ^ getD (widths ts) i 0
+
 abbrev widthsOf : Line → List ℕ
 widthsOf t = cond (t .given) (replicate (t .count) (t .width)) []
 
@@ -104,45 +114,22 @@ length-widths (t ∷ ts) = length-append (widthsOf t) (widths ts) ∙ ap₂ _+_ 
     line true e = rw e (length-replicate (t .count) (t .width))
     line false e = rw e
 
-byte-at : (ws : List ℕ) (i : ℕ) → all ofByte ws ≡ true → getD ws i 0 ≤ 8
-unfolding all
-byte-at [] i h = omega arith
-byte-at (w ∷ ws) zero h = leb-true w 8 (and-both (ofByte w) (all ofByte ws) h .0)
-byte-at (w ∷ ws) (suc i) h = byte-at ws i (and-both (ofByte w) (all ofByte ws) h .1)
-
--- those from the n-th on are bytes where their lines say so
-pub bytes-from : (ts : List Line) (xs : List ℕ) (n : ℕ) → Held ts xs → all ofByte (drop n (widths ts)) ≡ true → Under 256 (drop n xs)
-bytes-from ts xs n h e i =
-    let a : getD (drop n xs) i 0 ≡ getD xs (n + i) 0 = getD-drop n xs i 0 in
-    let w : getD (widths ts) (n + i) 0 ≤ 8 = rw (← getD-drop n (widths ts) i 0) (byte-at (drop n (widths ts)) i e) in
-    rw a (lt-of-lt-of-le (h (n + i)) (pow-le-pow-right (omega arith) w))
-
--- ---- what a computed test finds of every kind: its numbers have two bytes at most, and digits, entries and bytes one
+-- ---- what a computed test finds of every kind: its numbers have two bytes at most
 abbrev ofWord : ℕ → Bool
 ofWord w = leb w 16
 
-abbrev fits : Kind → Bool
-fits f = all ofWord (widths (rowOf f .before)) && (all ofByte (drop (numbersIn f) (widths (rowOf f .before))) && (all ofByte (widths (rowOf f .after)) && all ofByte (widths (rowOf f .each))))
-
-all-fit : all fits kinds ≡ true
+all-fit : all (λ (f : Kind). all ofWord (widths (rowOf f .before))) kinds ≡ true
 unfolding all widths
 all-fit = refl
 
-pub record Bytes (f : Kind) : Type 0 where
-  pub words : all ofWord (widths (rowOf f .before)) ≡ true
-  pub digits : all ofByte (drop (numbersIn f) (widths (rowOf f .before))) ≡ true
-  pub rest : all ofByte (widths (rowOf f .after)) ≡ true
-  pub each : all ofByte (widths (rowOf f .each)) ≡ true
+roomy : (w x : ℕ) → w ≤ 16 → x < 2 ^ w → x < room w
+roomy w x l h = by-test (leb w 8) (λ e. rw e (lt-of-lt-of-le h (pow-le-pow-right (omega arith) (leb-true w 8 e)))) (λ e. rw e (lt-of-lt-of-le h (pow-le-pow-right (omega arith) l)))
 
-pub bytes-of : (f : Kind) → Bytes f
-bytes-of f =
-    let before = widths (rowOf f .before) in
-    let after = all ofByte (widths (rowOf f .after)) in
-    let each = all ofByte (widths (rowOf f .each)) in
-    let a = and-both (all ofWord before) (all ofByte (drop (numbersIn f) before) && (after && each)) (each-kind fits all-fit f) in
-    let b = and-both (all ofByte (drop (numbersIn f) before)) (after && each) (a .1) in
-    let c = and-both after each (b .1) in
-    record { words = a .0; digits = b .0; rest = c .0; each = c .1 }
+word-at : (ws : List ℕ) (i : ℕ) → all ofWord ws ≡ true → getD ws i 0 ≤ 16
+unfolding all
+word-at [] i h = omega arith
+word-at (w ∷ ws) zero h = leb-true w 16 (and-both (ofWord w) (all ofWord ws) h .0)
+word-at (w ∷ ws) (suc i) h = word-at ws i (and-both (ofWord w) (all ofWord ws) h .1)
 
 -- ---- numbers, then zeros
 padded-is : (m : ℕ) (xs : List ℕ) → length xs ≤ m → padded m xs ≡ xs ++ drop (length xs) (replicate m 0)
@@ -152,98 +139,66 @@ padded-is m xs h =
     let k : length z ≡ m = length-replicate m 0 in
     from-front xs z (omega arith)
 
-pub take-front : (l xs : List ℕ) (w : ℕ) → length xs ≡ w → w ≤ length l → take w (sets l 0 xs) ≡ xs
-take-front l xs w e h = ap (take w) (from-front xs l (omega arith)) ∙ take-at xs (drop (length xs) l) w e
+-- ---- a content by its numbers: those that its own lines have, then zeros
+listed-same : (n i : ℕ) (xs ys : List ℕ) → ((j : ℕ) → j < i + n → getD xs j 0 ≡ getD ys j 0) → listed n i xs ≡ listed n i ys
+listed-same zero i xs ys e = refl
+listed-same (suc n) i xs ys e = ap₂ (λ (x : ℕ) (l : List ℕ). x ∷ l) (e i (omega arith)) (listed-same n (suc i) xs ys (λ j h. e j (omega arith)))
 
--- numbers that were read to an array of bytes first
-pub by-bytes : (z few o o″ l : List ℕ) (p n i : ℕ) → length z ≡ 64 → n ≤ 64 → few ≡ sets z 0 (run l p n 4) → o″ ≡ sets o i (take n few) → o″ ≡ sets o i (run l p n 4)
-by-bytes z few o o″ l p n i k h f e = e ∙ ap (sets o i) (ap (take n) f ∙ take-front z (run l p n 4) n (length-run l p n 4) (omega arith))
-
--- ---- a content by its numbers
--- numbers that fit their lines, whatever stands behind them, are not cut
-cut-held : (ws xs zs : List ℕ) → length xs ≡ length ws → all ofWord ws ≡ true → ((i : ℕ) → getD xs i 0 < 2 ^ getD ws i 0) → cut ws (xs ++ zs) ≡ xs
-unfolding all cut
-cut-held [] [] zs n a h = refl
-cut-held [] (x ∷ xs) zs n a h = absurd (omega arith)
-cut-held (w ∷ ws) [] zs n a h = absurd (omega arith)
-cut-held (w ∷ ws) (x ∷ xs) zs n a h =
-    let b = and-both (ofWord w) (all ofWord ws) a in
-    ap₂ (λ (y : ℕ) (l : List ℕ). y ∷ l) (mod-eq-of-lt (roomy (leb w 8) refl (leb-true w 16 (b .0)))) (cut-held ws xs zs (omega arith) (b .1) (λ i. h (suc i)))
+-- a content is of the numbers that its kind has
+content-same : (f : Kind) (xs ys : List ℕ) (k : ℕ) → isUnknown f ≡ false → listed (numbersIn f) 0 xs ≡ listed (numbersIn f) 0 ys → contentOf f xs k ≡ contentOf f ys k
+content-same f xs ys k u e =
+    sym (content-back (contentOf f xs k) [] [])
+    ∙ ap made (parts-back f xs k u ∙ ap (λ (l : List ℕ). record { kind = f; numbers = l; count = countBy (rowOf f .counting) k 0 }) e ∙ sym (parts-back f ys k u))
+    ∙ content-back (contentOf f ys k) [] []
   where
-    roomy : (t : Bool) → leb w 8 ≡ t → w ≤ 16 → x < room w
-    roomy true e l = rw e (lt-of-lt-of-le (h 0) (pow-le-pow-right (omega arith) (leb-true w 8 e)))
-    roomy false e l = rw e (lt-of-lt-of-le (h 0) (pow-le-pow-right (omega arith) l))
+    made : Parts → Content
+    made p = contentOf (p .kind) (p .numbers ++ []) (countBy (rowOf (p .kind) .counting) (p .count) 0)
 
--- the array of a kind's first numbers, taken by the code's lines T
-module _ (f : Kind) (b : List ℕ) (q : ℕ) (T : List Line) (front : List ℕ) (e : T ≡ rowOf f .before) (a : front ≡ padded 41 (numbersAt T b q)) where
+module _ (f : Kind) (b : List ℕ) (q : ℕ) where
   abbrev first : List ℕ
   first = numbersAt (rowOf f .before) b q
 
-  pub long-front : length first ≡ need (rowOf f .before)
-  long-front = length-flat (rowOf f .before) (bits b) q
+  abbrev mine : List ℕ
+  mine = numbersAt (ownOf f) b q
 
-  few : length first ≤ 41
-  few = omega (arith, long-front, good f .digits, good f .few)
+  abbrev behind : List ℕ
+  behind = numbersAt (besideOf f) b (q + size (ownOf f))
 
-  same-front : front ≡ padded 41 first
-  same-front = a ∙ ap (λ (ts : List Line). padded 41 (numbersAt ts b q)) e
+  long-first : length first ≡ need (rowOf f .before)
+  long-first = length-flat (rowOf f .before) (bits b) q
 
-  pub content-front : (k : ℕ) → namedBy f front k ≡ contentOf f first k
-  content-front k =
-      let ts = rowOf f .before in
-      ap (λ (l : List ℕ). contentOf f (cut (widths ts) l) k) (same-front ∙ padded-is 41 first few)
-      ∙ ap (λ (l : List ℕ). contentOf f l k) (cut-held (widths ts) first (drop (length first) (replicate 41 0)) (long-front ∙ sym (length-widths ts)) (bytes-of f .words) (held-at ts b q))
+  long-mine : length mine ≡ numbersIn f
+  long-mine = length-flat (ownOf f) (bits b) q ∙ columned f .numbers
 
-  pub numbers-own : (k : ℕ) (c : Content) (l : Laid) → c ≡ namedBy f front k → l ≡ laidOf c → l .n ≡ numbersIn f
-  numbers-own k c l e h = ap (λ (x : Laid). x .n) h ∙ ap (λ (d : Content). length (numbersOf d)) (e ∙ content-front k) ∙ length-back f first k
+  split : first ≡ mine ++ behind
+  split = ap (λ (ts : List Line). numbersAt ts b q) (sym (take-append-drop (ownLines f) (rowOf f .before))) ∙ flat-append (ownOf f) (besideOf f) (bits b) q
 
-  same-length : length front ≡ 41
-  same-length = ap length same-front ∙ length-sets (zeros 41) 0 first ∙ length-zeros 41 (zeros 41) refl
+  pub content-named : (xs : List ℕ) (k : ℕ) → isUnknown f ≡ false → xs ≡ padded 6 mine → namedBy f xs k ≡ contentOf f first k
+  content-named xs k u e = content-same f (cut ws xs) first k u (listed-same (numbersIn f) 0 (cut ws xs) first at)
+    where
+      ws : List ℕ
+      ws = widths (rowOf f .before)
 
-  -- the array of its last numbers beside it, taken from place r on by the lines U; and what code knows of their sizes
-  module _ (r : ℕ) (U : List Line) (back : List ℕ) (d : U ≡ rowOf f .after) (g : back ≡ padded 41 (numbersAt U b r)) (n end m : ℕ) (en : n ≡ numbersIn f) (ee : end ≡ need (rowOf f .before)) (em : m ≡ need (rowOf f .after)) where
-    abbrev last : List ℕ
-    last = numbersAt (rowOf f .after) b r
+      at : (i : ℕ) → i < 0 + numbersIn f → getD (cut ws xs) i 0 ≡ getD first i 0
+      at i h =
+          let n : i < length ws = omega (arith, length-widths (rowOf f .before), good f .numbered) in
+          let x : getD xs i 0 ≡ getD first i 0 =
+          ap (λ (l : List ℕ). getD l i 0) (e ∙ padded-is 6 mine (omega (arith, long-mine, good f .few)))
+          ∙ List·getD-append mine (drop (length mine) (replicate 6 0)) 0 i (omega (arith, long-mine))
+          ∙ sym (ap (λ (l : List ℕ). getD l i 0) split ∙ List·getD-append mine behind 0 i (omega (arith, long-mine)))
+          in
+          cut-at ws xs i (lt-ltb i (length ws) n)
+          ∙ ap (λ (y : ℕ). y % room (getD ws i 0)) x
+          ∙ mod-eq-of-lt (roomy (getD ws i 0) (getD first i 0) (word-at ws i (each-kind _ all-fit f)) (held-at (rowOf f .before) b q i))
 
-    front-part : take (end - n) (drop n front) ≡ drop (numbersIn f) first
-    front-part =
-        let zs : List ℕ = drop (length first) (replicate 41 0) in
-        let l : length (drop n first) ≡ end - n = omega (arith, length-drop n first, long-front, ee) in
-        ap (λ (l : List ℕ). take (end - n) (drop n l)) (same-front ∙ padded-is 41 first few)
-        ∙ ap (take (end - n)) (drop-append-le n first zs (omega (arith, en, long-front, good f .numbered)))
-        ∙ take-at (drop n first) zs (end - n) l
-        ∙ ap (λ (x : ℕ). drop x first) en
-
-    same-back : back ≡ padded 41 last
-    same-back = g ∙ ap (λ (ts : List Line). padded 41 (numbersAt ts b r)) d
-
-    back-part : take m back ≡ last
-    back-part =
-        ap (take m) same-back
-        ∙ take-front (zeros 41) last m (length-flat (rowOf f .after) (bits b) r ∙ sym em) (omega (arith, em, good f .last, length-zeros 41 (zeros 41) refl))
-
-    pub digits-asked : Digits front n end back m
-    digits-asked =
-        record {
-          order = omega (arith, en, ee, good f .numbered);
-          inside = omega (arith, ee, same-length, good f .digits, good f .few);
-          short = omega (arith, same-length);
-          narrow = subst (Under 256) (sym front-part) (bytes-from (rowOf f .before) first (numbersIn f) (held-at (rowOf f .before) b q) (bytes-of f .digits));
-          also-inside = omega (arith, em, good f .last, back-long);
-          also-short = omega (arith, back-long);
-          also-narrow = subst (Under 256) (sym back-part) (bytes-from (rowOf f .after) last 0 (held-at (rowOf f .after) b r) (bytes-of f .rest));
-        }
-      where
-        back-long : length back ≡ 41
-        back-long = ap length same-back ∙ length-sets (zeros 41) 0 last ∙ length-zeros 41 (zeros 41) refl
-
-    pub digits-are : padded 35 (take (end - n) (drop n front) ++ take m back) ≡ padded 35 (drop (numbersIn f) first ++ last)
-    digits-are = ap₂ (λ (x y : List ℕ). padded 35 (x ++ y)) front-part back-part
-
--- ---- a row's numbers, in an array that had others before
-module _ (T : List Line) (b row row″ : List ℕ) (q w : ℕ) (e : w ≡ need T) (h : w ≤ length row) (a : row″ ≡ sets row 0 (numbersAt T b q)) where
-  pub row-part : take w row″ ≡ numbersAt T b q
-  row-part = ap (take w) a ∙ take-front row (numbersAt T b q) w (length-flat T (bits b) q ∙ sym e) h
-
-  pub row-bytes : all ofByte (widths T) ≡ true → Under 256 (take w row″)
-  row-bytes k = subst (Under 256) (sym row-part) (bytes-from T (numbersAt T b q) 0 (held-at T b q) k)
+  -- the digits beside it: two writes, one behind the other, by the lines that code has for them
+  pub digits-joined : (N A : List Line) (o o₁ o₂ : List ℕ) (p w x v y i r : ℕ) → N ≡ besideOf f → A ≡ rowOf f .after → o ≡ zeros 35 → p ≡ q + size (ownOf f) → i ≡ need (rowOf f .before) - numbersIn f
+      → o₁ ≡ strips o 0 w 1 (λ (n : ℕ). numbersAt N b (p + n * x)) → o₂ ≡ strips o₁ i v 1 (λ (n : ℕ). numbersAt A b (r + n * y)) → o₂ ≡ padded 35 (drop (numbersIn f) first ++ numbersAt (rowOf f .after) b r)
+  digits-joined N A o o₁ o₂ p w x v y i r en ea eo ep ei e g =
+      let last = numbersAt (rowOf f .after) b r in
+      let at : p + 0 * x ≡ q + size (ownOf f) = omega (arith, ep, zero-mul x) in
+      let also : r + 0 * y ≡ r = omega (arith, zero-mul y) in
+      let one : o₁ ≡ sets (zeros 35) 0 behind = e ∙ once o 0 w _ ∙ rw (en, eo, at) in
+      let two : o₂ ≡ sets o₁ i last = g ∙ once o₁ i v _ ∙ rw (ea, also) in
+      let long : i ≡ 0 + length behind = omega (arith, ei, ap length split ∙ length-append mine behind, long-first, long-mine) in
+      join (zeros 35) o₁ o₂ behind last 0 i one two long ∙ ap (λ (l : List ℕ). padded 35 (l ++ last)) (sym (ap (drop (numbersIn f)) split ∙ drop-at mine behind (numbersIn f) long-mine))

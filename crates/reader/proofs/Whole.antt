@@ -8,7 +8,7 @@ use native.Mathlib.Omega.{arith}
 use lib.Dec.{ltb, eqb}
 use lib.ListN.{length, take, drop}
 use borrow.Author.Tests.{lt-leb, le-leb, ne-eqb, eq-eqb, eqb-true, eqb-false}
-use Rattle.laws.specs.Bits.{bits}
+use Rattle.laws.specs.Bits.{at, bits}
 use Rattle.laws.specs.Scan.{all}
 use Rattle.laws.specs.Refusals.{first}
 use Rattle.laws.proofs.Bits.{at-small}
@@ -20,11 +20,12 @@ use Rattle.format.proofs.Tables.{fine-append, size-times, unmet-fine}
 use Rattle.packet.specs.declared.Kind.{Kind}
 use Rattle.packet.specs.declared.Counting.{Counting}
 use Rattle.packet.specs.declared.Counting.the-variants as counting
-use Rattle.packet.specs.Table.{Row, contentBytes, rowOf, countLine, countIn, contentLines, code, ending, packet}
+use Rattle.packet.specs.Table.{Row, contentBytes, rowOf, countLine, countBy, countIn, contentLines, code, ending, packet}
 use Rattle.packet.specs.declared.Sizes.{Sizes}
 use Rattle.packet.proofs.Good.{good}
 use Rattle.packet.specs.Reading.{isUnknown, sizesOf, lengthIn, codesIn, kindIn, contentAt, contentSize, countOf, partAt, tableOf, valuesIn, sizeBad, lengthBad, fieldBad, readCases, readAnswer, textAnswer, textOf, bodyOf, hasEntries}
 use Rattle.packet.proofs.ByType.{below-not}
+use Rattle.reader.proofs.Zeros.{lead-is}
 use Rattle.packet.proofs.Column.{count-size, content-size, column}
 use Rattle.packet.proofs.Accepted.{no-size}
 pub use Rattle.packet.proofs.Accepted.{Sized, sized, Accepted, accepted, right-size, text-there, text-from, text-inside, body-inside, later, later-not, text-later}
@@ -117,6 +118,15 @@ packet-parts a b h e =
 pub count-at : (b : List ℕ) (f : Kind) (n m : ℕ) → f ≡ kindIn b → n ≡ codesIn b → m ≡ contentSize b → countIn (rowOf f) (bits b) (24 + 96 * n) m ≡ countOf b
 unfolding countOf
 count-at b f n m e h i = rw (e, h, i)
+
+pub count-is : (b : List ℕ) (f : Kind) (s : Counting) (n m p : ℕ) → f ≡ kindIn b → n ≡ codesIn b → m ≡ contentSize b → s ≡ rowOf f .counting → p ≡ 16 + 96 * n + partAt (rowOf f) → countBy s (at (bits b) p 8) m ≡ countOf b
+count-is b f s n m p e h i es ep = go s es ∙ count-at b f n m e h i
+  where
+    go : (s : Counting) → s ≡ rowOf f .counting → countBy s (at (bits b) p 8) m ≡ countIn (rowOf f) (bits b) (24 + 96 * n) m
+    go counting.Fixed e = rw (sym e)
+    go counting.Counted e = let q : p ≡ 24 + 96 * n + size (rowOf f .before) = omega (arith, ep, lead-is f counting.Counted (sym e)) in rw (sym e, q)
+    go counting.Raw e = rw (sym e)
+    go counting.Unknown e = rw (sym e)
 
 pub length-at : (b : List ℕ) (f : Kind) (k m x y z : ℕ) → f ≡ kindIn b → k ≡ countOf b → m ≡ contentSize b → x ≡ partAt (rowOf f) → y ≡ size (rowOf f .each) → z ≡ size (rowOf f .after)
     → not (eqb (x + k * y + z) (8 * m)) ≡ lengthBad b

@@ -17,6 +17,10 @@ plain t = eqb (t .answer) 0
 abbrev pub asks : Line → Bool
 asks t = plain t || asked (t .answer)
 
+-- what a line's numbers pass that are as it says, or not
+abbrev pub passing : Line → Bool → ℕ → Bool
+passing t x k = cond (eqb (t .answer) k) x true
+
 -- the smaller of two numbers
 abbrev pub lesser : ℕ → ℕ → ℕ
 lesser a b = cond (ltb b a) b a

@@ -1,22 +1,26 @@
 // The parts of a packet: heading, codes, content and what follows.
 ghost use mathlib.Core.Path.{_≡_};
 ghost use mathlib.Core.Bool.{cond};
-ghost use mathlib.Core.List.{[], _++_};
-ghost use Prim.Native.Nat.{_+_, _-_, _*_, _<_, _≤_};
-ghost use lib.ListN.{length, take, drop};
+ghost use mathlib.Core.List.{[]};
+ghost use Prim.Native.Nat.{ℕ, _+_, _-_, _*_, _<_, _≤_};
+ghost use lib.ListN.{length};
+ghost use lib.Seq.{sets};
+ghost use lib.Dec.{ltb};
 ghost use Rattle.laws.specs.Bits.{at, run, bits};
-ghost use Rattle.format.specs.Format.{times, size};
-ghost use Rattle.packet.specs.Table.{rowOf, countIn};
+ghost use Rattle.format.specs.Format.{times, decode, fine};
+ghost use Rattle.packet.specs.Table.{rowOf, code, contentLines, countBy};
 ghost use Rattle.packet.specs.InCode.{linesIn, Stands};
-ghost use Rattle.packet.specs.Content.{contentOf, numbersIn};
-ghost use Rattle.packet.specs.Reading.{typeIn, codesIn, kindIn, contentSize, countOf, partAt, numbersAt, contentIn, digitsIn, zeros, padded, codesOf, bodyIn, hasEntries};
-ghost use Rattle.reader.specs.Taking.{Digits};
-use crate::lines;
-use crate::numbers;
+ghost use Rattle.packet.specs.Content.{contentOf};
+ghost use Rattle.packet.specs.Reading.{typeIn, codesIn, kindIn, contentSize, countOf, partAt, numbersAt, zeros, hasEntries};
+ghost use Rattle.reader.specs.Due.{Judged};
+ghost use Rattle.reader.specs.Taking.{Entries, Holding, Beside};
+use crate::columns;
 use packet::Content;
 use packet::Counting;
 use packet::Kind;
 use packet::Lines;
+use packet::RowLines;
+use packet::Sizes;
 
 // a - b, and 0 where b is above a.
 pub(crate) fn minus(a: usize, b: usize) -> usize
@@ -56,16 +60,24 @@ pub(crate) fn zeros272() -> [u8; 272]
 }
 
 // ---- heading
+// A number of at most a byte.
+fn small(b: &[u8], p: usize, w: usize) -> u8
+    requires { ⌜ (w ≤ 8) × (p < 65536) ⌝ }
+    ensures { λ r. ⌜ r ≡ at (bits (now (b .entry))) p w ⌝ }
+{
+    format::field(b, p, w) as u8
+}
+
 pub(crate) fn type_in(b: &[u8]) -> u8
     ensures { λ r. ⌜ r ≡ typeIn (now (b .entry)) ⌝ }
 {
-    lines::small(b, 0, 5)
+    small(b, 0, 5)
 }
 
 pub(crate) fn codes_count(b: &[u8]) -> usize
     ensures { λ r. ⌜ (r ≡ codesIn (now (b .entry))) × (r < 256) ⌝ }
 {
-    lines::small(b, 16, 8) as usize
+    small(b, 16, 8) as usize
 }
 
 pub(crate) fn kind(b: &[u8]) -> Kind
@@ -75,17 +87,14 @@ pub(crate) fn kind(b: &[u8]) -> Kind
 }
 
 // ---- sizes and count of the content
-// How often the row stands in a content of m bytes from bit q on.
-fn count_in(f: Kind, b: &[u8], q: usize, m: usize) -> usize
-    requires { ⌜ q < 30000 ⌝ }
-    ensures { λ r. ⌜ r ≡ countIn (rowOf f) (bits (now (b .entry))) q m ⌝ }
+// How often the row stands in a content of m bytes whose count, if it has one, stands at bit p.
+pub(crate) fn count_at(counting: Counting, b: &[u8], p: usize, m: usize) -> usize
+    requires { ⌜ p < 65536 ⌝ }
+    ensures { λ r. ⌜ r ≡ countBy counting (at (bits (now (b .entry))) p 8) m ⌝ }
 {
-    let s = table::row_of(f);
-    let z = table::sizes_of(f);
-    let counting = s.counting;
     match counting {
         Counting::Fixed => 0,
-        Counting::Counted => lines::small(b, q + z.lead - 8, 8) as usize,
+        Counting::Counted => small(b, p, 8) as usize,
         Counting::Raw => m,
         Counting::Unknown => 0,
     }
@@ -101,8 +110,16 @@ pub(crate) fn content_size(b: &[u8]) -> usize
 pub(crate) fn count(b: &[u8]) -> usize
     ensures { λ r. ⌜ r ≡ countOf (now (b .entry)) ⌝ }
 {
-    let q = 24 + 96 * codes_count(b);
-    count_in(kind(b), b, q, content_size(b))
+    let f = kind(b);
+    let s = table::row_of(f);
+    let z = table::sizes_of(f);
+    let counting = s.counting;
+    count_at(
+        counting,
+        b,
+        16 + 96 * codes_count(b) + z.lead,
+        content_size(b),
+    )
 }
 
 // The bytes of the text: as many as its length says, whatever they are.
@@ -131,121 +148,100 @@ pub(crate) fn bytes_count(b: &[u8]) -> usize
     }
 }
 
-// ---- the content
-// The numbers of lines from bit p on, then zeros.
-fn numbers_at(ts: Lines, b: &[u8], p: usize) -> [u32; 41]
-    requires { ⌜ Stands ts × (p < 37000) ⌝ }
-    ensures { λ r. ⌜ r ≡ padded 41 (numbersAt (linesIn ts) (now (b .entry)) p) ⌝ }
+// ---- the codes
+// n of them, reserved bits and 23 digits each; what they are due.
+pub(crate) fn take_codes(b: &[u8], n: usize, out: &mut [u8]) -> u8
+    requires { ⌜ (n ≤ 14) × (3 + 12 * n ≤ length (now b)) × (length (now out) ≡ 322) ⌝ }
+    ensures { λ r. ⌜ (now (out .exit) ≡ sets (now (out .entry)) 0 (numbersAt (times n code) (now (b .entry)) 24)) × Judged (λ (a : ℕ). fine a (times n code) (decode (times n code) (bits (now (b .entry))) 24)) r ⌝ }
 {
-    let mut all = numbers::zeros41();
-    numbers::take_lines(ts, b, p, &mut all);
-    all
-}
-
-pub(crate) fn content(b: &[u8]) -> Content
-    ensures { λ r. ⌜ r ≡ contentIn (now (b .entry)) ⌝ }
-{
-    let n = codes_count(b);
-    let k = count(b);
-    let f = kind(b);
-    let s = table::row_of(f);
-    let before = s.before;
-    let front = numbers_at(before, b, 24 + 96 * n);
-    packet::named(f, &front, k)
-}
-
-// Content and digits.
-pub(crate) struct Opening {
-    pub(crate) content: Content,
-    pub(crate) digits: [u8; 35],
-}
-
-// The numbers of xs from the n-th to the end, then the first m of ys.
-fn digits_of(xs: &[u32], n: usize, end: usize, ys: &[u32], m: usize) -> [u8; 35]
-    requires { ⌜ Digits (now xs) n end (now ys) m ⌝ }
-    ensures { λ r. ⌜ r ≡ padded 35 (take (end - n) (drop n (now (xs .entry))) ++ take m (now (ys .entry))) ⌝ }
-{
-    let mut d = zeros35();
-    numbers::narrow(xs, n, end - n, &mut d, 0);
-    numbers::narrow(ys, 0, m, &mut d, end - n);
-    d
-}
-
-// The content of a kind from bit q on, with count k, and the digits beside it: behind its numbers, then behind its bytes.
-fn told_at(f: Kind, b: &[u8], q: usize, k: usize) -> Opening
-    requires { ⌜ (q < 25000) × (k < 256) ⌝ }
-    ensures { λ r. ⌜ (r .content ≡ contentOf f (numbersAt (rowOf f .before) (now (b .entry)) q) k) × (r .digits ≡ padded 35 (drop (numbersIn f) (numbersAt (rowOf f .before) (now (b .entry)) q) ++ numbersAt (rowOf f .after) (now (b .entry)) (q + (partAt (rowOf f) + k * size (rowOf f .each))))) ⌝ }
-{
-    let s = table::row_of(f);
-    let z = table::sizes_of(f);
-    let before = s.before;
-    let after = s.after;
-    let front = numbers_at(before, b, q);
-    let back = numbers_at(after, b, q + z.lead + k * z.each);
-    let content = packet::named(f, &front, k);
-    let own = packet::lay(content);
-    let d = digits_of(&front, own.n, z.first, &back, z.last);
-    Opening {
-        content: content,
-        digits: d,
-    }
-}
-
-pub(crate) fn told(b: &[u8]) -> Opening
-    requires { ⌜ length (now b) ≤ 250 ⌝ }
-    ensures { λ r. ⌜ (r .content ≡ contentIn (now (b .entry))) × (r .digits ≡ padded 35 (digitsIn (now (b .entry)))) ⌝ }
-{
-    let n = codes_count(b);
-    let k = count(b);
-    told_at(kind(b), b, 24 + 96 * n, k)
-}
-
-// ---- codes, entries and what follows the content
-// The digits of n codes.
-pub(crate) fn codes(b: &[u8]) -> [u8; 322]
-    ensures { λ r. ⌜ r ≡ padded 322 (codesOf (now (b .entry))) ⌝ }
-{
-    let n = codes_count(b);
-    let mut out = zeros322();
-    let mut p: usize = 24;
+    let mut ones = true;
+    let mut good = true;
+    let mut k: usize = 3;
     let mut i: usize = 0;
     let mut j: usize = 0;
     while j < n {
-        format::fields(b, p + 4, 23, 4, &mut out, i);
-        p += 96;
+        if b[k] < 240 {
+            ones = false;
+        }
+        let here = columns::take_digits(b, k + 12, 23, out, i);
+        if !here {
+            good = false;
+        }
+        k += 12;
         i += 23;
         j += 1;
     }
-    out
-}
-
-// The entries of a kind, k of them from bit p on.
-fn entries_in(f: Kind, b: &[u8], p: usize, k: usize) -> [u8; 272]
-    requires { ⌜ (p < 25000) × (k < 256) ⌝ }
-    ensures { λ r. ⌜ r ≡ padded 272 (numbersAt (times k (rowOf f .each)) (now (b .entry)) p) ⌝ }
-{
-    let s = table::row_of(f);
-    let z = table::sizes_of(f);
-    let each = s.each;
-    let mut out = zeros272();
-    numbers::take_rows(each, z.each, z.row, k, b, p, &mut out);
-    out
-}
-
-pub(crate) fn entries(b: &[u8]) -> [u8; 272]
-    requires { ⌜ length (now b) ≤ 250 ⌝ }
-    ensures { λ r. ⌜ r ≡ padded 272 (cond (hasEntries (kindIn (now (b .entry)))) (bodyIn (now (b .entry))) []) ⌝ }
-{
-    let f = kind(b);
-    if table::has_entries(f) {
-        let n = codes_count(b);
-        let k = count(b);
-        entries_in(f, b, 24 + 96 * n + lead(b), k)
+    if ones {
+        if good { 255 } else { 25 }
     } else {
-        zeros272()
+        24
     }
 }
 
+// ---- the content
+// What the lines of a content are due, and the content.
+pub(crate) struct Held {
+    pub(crate) due: u8,
+    pub(crate) content: Content,
+}
+
+// The lines behind the first own ones.
+fn beside(before: Lines, own: usize) -> Lines
+    requires { ⌜ (own ≤ before .m) × Stands before ⌝ }
+    ensures { λ r. ⌜ r ≡ record { from = before .from + own; m = before .m - own; bits = before .bits; numbers = before .numbers } ⌝ }
+{
+    Lines {
+        from: before.from + own,
+        m: before.m - own,
+        bits: before.bits,
+        numbers: before.numbers,
+    }
+}
+
+// The entries of a kind that has some, k of them from bit p on.
+fn take_entries(each: Lines, k: usize, b: &[u8], p: usize, out: &mut [u8]) -> u8
+    requires { ⌜ Entries each k (length (now b)) p (length (now out)) ⌝ }
+    ensures { λ r. ⌜ (now (out .exit) ≡ sets (now (out .entry)) 0 (cond (ltb 1 (each .m)) (numbersAt (times k (linesIn each)) (now (b .entry)) p) [])) × Judged (λ (a : ℕ). fine a (times k (linesIn each)) (decode (times k (linesIn each)) (bits (now (b .entry))) p)) r ⌝ }
+{
+    if 1 < each.m {
+        columns::take_rows(each, k, b, p, out, 0)
+    } else {
+        255
+    }
+}
+
+// A content from bit q on, the digits beside it, and its entries.
+pub(crate) fn take_content(
+    f: Kind,
+    s: RowLines,
+    z: Sizes,
+    k: usize,
+    b: &[u8],
+    q: usize,
+    digits: &mut [u8],
+    entries: &mut [u8],
+) -> Held
+    requires { ⌜ Holding f s z k (length (now b)) q (now digits) (now entries) ⌝ }
+    ensures { λ r. ⌜ (r .content ≡ contentOf f (numbersAt (rowOf f .before) (now (b .entry)) q) k) × Judged (λ (a : ℕ). fine a (contentLines (rowOf f) k) (decode (contentLines (rowOf f) k) (bits (now (b .entry))) q)) (r .due) × Beside f k (now (b .entry)) q (now (digits .exit)) (now (entries .exit)) ⌝ }
+{
+    let before = s.before;
+    let each = s.each;
+    let after = s.after;
+    let mut numbers = [0u32; 6];
+    let own = columns::take_own(before.from, s.own, b, q, &mut numbers);
+    let first = columns::take_rows(beside(before, s.own), 1, b, own.place, digits, 0);
+    let p = q + z.lead;
+    let rows = take_entries(each, k, b, p, entries);
+    let last = columns::take_rows(after, 1, b, p + k * z.each, digits, z.first - own.numbers);
+    let content = packet::named(f, &numbers, k);
+    let d = columns::least(columns::least(own.due, first), columns::least(rows, last));
+    Held {
+        due: d,
+        content: content,
+    }
+}
+
+// ---- what follows the content
 pub(crate) fn time(b: &[u8]) -> u32
     requires { ⌜ length (now b) ≤ 250 ⌝ }
     ensures { λ r. ⌜ r ≡ at (bits (now (b .entry))) (8 * (length (now (b .entry)) - 74)) 32 ⌝ }
@@ -253,20 +249,16 @@ pub(crate) fn time(b: &[u8]) -> u32
     format::field(b, 8 * minus(b.len(), 74), 32)
 }
 
-pub(crate) fn certificate(b: &[u8]) -> [u8; 12]
-    requires { ⌜ length (now b) ≤ 250 ⌝ }
-    ensures { λ r. ⌜ r ≡ run (bits (now (b .entry))) (8 * (length (now (b .entry)) - 70)) 12 4 ⌝ }
-{
-    let mut d = zeros12();
-    format::fields(b, 8 * minus(b.len(), 70), 12, 4, &mut d, 0);
-    d
-}
-
 pub(crate) fn signature(b: &[u8]) -> [u8; 64]
-    requires { ⌜ length (now b) ≤ 250 ⌝ }
+    requires { ⌜ (64 ≤ length (now b)) × (length (now b) ≤ 250) ⌝ }
     ensures { λ r. ⌜ r ≡ run (bits (now (b .entry))) (8 * (length (now (b .entry)) - 64)) 64 8 ⌝ }
 {
+    let from = b.len() - 64;
     let mut d = zeros64();
-    format::fields(b, 8 * minus(b.len(), 64), 64, 8, &mut d, 0);
+    let mut i: usize = 0;
+    while i < 64 {
+        d[i] = b[from + i];
+        i += 1;
+    }
     d
 }

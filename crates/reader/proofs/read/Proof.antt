@@ -1,50 +1,30 @@
 -- `reader::read` meets its contract. Assumes nothing.
-use mathlib.Core.Path.{_≡_, sym, ap, _∙_}
+use mathlib.Core.Path.{sym}
 use denote.Ref.{now}
-use Rattle.reader.proofs.Whole as whole
-use Rattle.packet.specs.Reading.{readAnswer, opened, refusedAs}
+use Rattle.packet.specs.Reading.{opened}
+use Rattle.reader.proofs.Zeros.{length-zeros}
+use Rattle.reader.proofs.Telling.{opened-of}
 use borrow.Author.Needs.{needs}
 use Rattle.reader.proofs.read.Statement.{statement}
 use Rattle.reader.proofs.read.Tie as tie
-use Rattle.packet.proofs.Refused.{not-opened}
 
-answer-requires : tie.Need-answer-requires
-answer-requires c κs = search needs
+zeros322-requires : tie.Need-zeros322-requires
+zeros322-requires c κs = search needs
 
-fields-requires : tie.Need-fields-requires
-fields-requires c κs = let b = now (c .before .before .before .args .packet) in whole.most b (sym (c .before .answer .ensures) ∙ c .if1 .taken)
+zeros272-requires : tie.Need-zeros272-requires
+zeros272-requires c κs = search needs
 
-codes-requires : tie.Need-codes-requires
-codes-requires c κs = search needs
+slice-aggregate-read-to : tie.Need-slice-aggregate-read-to
+slice-aggregate-read-to c = sym (length-zeros 322 (c .before .before .zeros322 .result) (c .before .before .zeros322 .ensures))
 
-entries-requires : tie.Need-entries-requires
-entries-requires c κs = let b = now (c .before .before .before .before .before .args .packet) in whole.most b (sym (c .before .before .before .answer .ensures) ∙ c .before .before .if1 .taken)
+slice-aggregate-read-to-2 : tie.Need-slice-aggregate-read-to-2
+slice-aggregate-read-to-2 c = sym (length-zeros 272 (c .before .before .zeros272 .result) (c .before .before .zeros272 .ensures))
 
-refused-requires : tie.Need-refused-requires
-refused-requires c κs = search needs
+read-to-requires : tie.Need-read-to-requires
+read-to-requires c κs = (c .before .before .before .zeros322 .ensures, c .before .before .zeros272 .ensures)
 
 returns : tie.Need-returns
-unfolding opened
-returns c =
-    let b = now (c .before .before .before .before .before .before .args .packet) in
-    let e : readAnswer b ≡ 0 = sym (c .before .before .before .before .answer .ensures) ∙ c .before .before .before .if1 .taken in
-    rw (e, c .entries .ensures, c .before .codes .ensures, c .before .before .fields .ensures)
-
-returns-2 : tie.Need-returns-2
-unfolding opened
-returns-2 c =
-    let b = now (c .before .before .before .before .args .packet) in
-    let e = c .before .before .answer .ensures in
-    c .refused .ensures ∙ ap refusedAs e ∙ sym (not-opened (readAnswer b) b (λ h. c .before .if1 .left (e ∙ h)))
+returns c = let l = c .before .before .before .read-to .ensures in opened-of (opened (now (c .before .before .before .before .before .before .before .before .before .args .packet))) _ _ _ _ (l .0) (l .1) (l .2) (l .3)
 
 pub read-spec : {M : Type 1} → statement M
-read-spec =
-    tie.close
-    (tie.spec
-    answer-requires
-    fields-requires
-    codes-requires
-    entries-requires
-    refused-requires
-    returns
-    returns-2)
+read-spec = tie.close (tie.spec zeros322-requires zeros272-requires slice-aggregate-read-to slice-aggregate-read-to-2 read-to-requires returns)

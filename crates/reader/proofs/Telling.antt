@@ -1,0 +1,157 @@
+-- A packet whose sizes are right: what its parts ask, what they are due together, and what it says. Assumes nothing.
+use mathlib.Core.Path.{_≡_, refl, sym, ap, ap₂, subst, _∙_}
+use mathlib.Core.Bool.{Bool, true, false, not, cond, _&&_}
+use mathlib.Core.List.{List, []}
+use Prim.Native.Nat.{ℕ, zero, suc, _+_, _-_, _*_, _<_, _≤_}
+use native.Mathlib.Omega.{arith}
+use lib.ListN.{length, drop}
+use lib.Seq.{sets}
+use lib.Dec.{eqb}
+use borrow.Author.Tests.{eqb-true, eqb-false, ne-eqb}
+use Rattle.laws.specs.Bits.{at, run, bits}
+use Rattle.laws.proofs.Bits.{length-run}
+use Rattle.laws.specs.Refusals.{first}
+use Rattle.laws.proofs.Cases.{if-yes, if-no, or-yes, or-no}
+use Rattle.laws.proofs.Elements.{by-test}
+use Rattle.format.specs.Format.{digits, times, size, inside, decode, fine}
+use Rattle.packet.specs.declared.Kind.{Kind}
+use Rattle.packet.specs.declared.Content.{Content}
+use Rattle.packet.specs.declared.Fields.{Fields}
+use Rattle.packet.specs.declared.Opened.{Opened}
+use Rattle.packet.specs.declared.RowLines.{RowLines}
+use Rattle.packet.specs.declared.Sizes.{Sizes}
+use Rattle.packet.specs.Table.{rowOf, code, ending, contentLines}
+use Rattle.packet.specs.Content.{contentOf, noSuchDay}
+use Rattle.packet.specs.Reading.{readAnswer, opened, openedBy, refusedAs, typeIn, fieldsOf, codesIn, kindIn, numbersAt, frontIn, bodyIn, backIn, contentIn, digitsIn, codesOf, zeros, padded, hasEntries, tableOf, valuesIn, readCases}
+use Rattle.packet.proofs.Column.{content-size}
+use Rattle.packet.proofs.Refused.{not-opened}
+use Rattle.reader.specs.Due.{asked, passing, lesser, Judged}
+use Rattle.reader.specs.Taking.{Holding, Beside, Right}
+use Rattle.reader.proofs.Due.{both, judged-same, line-fine, line-due, asked-some, asked-not, asked-cases}
+use Rattle.reader.proofs.Zeros.{full}
+use Rattle.reader.proofs.Whole as whole
+
+-- ---- the answer by what the lines are due
+says-due : (b : List ℕ) (d : ℕ) → Judged (λ (a : ℕ). fine a (tableOf b) (valuesIn b)) d → d < 255 → d ≡ first (drop 3 (readCases b))
+says-due b d j l =
+    let y = j .due l in
+    let at : (n : ℕ) → d ≡ n → fine n (tableOf b) (valuesIn b) ≡ false = λ n e. subst (λ (a : ℕ). fine a (tableOf b) (valuesIn b) ≡ false) e (y .1) in
+    asked-cases d (y .0) (λ e. e ∙ whole.says-24 b (at 24 e)) (λ e. e ∙ whole.says-25 b (j .fine 24 refl (omega arith)) (at 25 e))
+    (λ e. e ∙ whole.says-27 b (j .fine 24 refl (omega arith)) (j .fine 25 refl (omega arith)) (or-yes _ (ap not (at 27 e))))
+
+pub says : (b : List ℕ) (d : ℕ) (day : Bool) → Judged (λ (a : ℕ). fine a (tableOf b) (valuesIn b)) d → d < 256 → day ≡ noSuchDay (contentIn b) → cond (eqb d 255) (cond day 27 0) d ≡ first (drop 3 (readCases b))
+says b d day j l e =
+    by-test (eqb d 255)
+    (λ t. let f : (k : ℕ) → asked k ≡ true → k < 255 → fine k (tableOf b) (valuesIn b) ≡ true = λ k a m. j .fine k a (omega (arith, eqb-true d 255 t)) in
+    if-yes (cond day 27 0) d t
+    ∙ by-test day
+    (λ s. if-yes 27 0 s ∙ whole.says-27 b (f 24 refl (omega arith)) (f 25 refl (omega arith)) (or-no _ (ap not (f 27 refl (omega arith))) ∙ sym e ∙ s))
+    (λ s. if-no 27 0 s ∙ whole.says-0 b (f 24 refl (omega arith)) (f 25 refl (omega arith)) (or-no _ (ap not (f 27 refl (omega arith))) ∙ sym e ∙ s)))
+    (λ t. if-no (cond day 27 0) d t ∙ says-due b d j (omega (arith, eqb-false d 255 t)))
+
+-- ---- what follows the content is due only for its digits
+ending-due : (l : List ℕ) (e : ℕ) (good : Bool) → good ≡ inside 0 9 (run l (e + 32) 12 4) → Judged (λ (a : ℕ). fine a ending (decode ending l e)) (cond good 255 25)
+unfolding fine decode
+ending-due l e good g = judged-same (passing (digits 12) good) _ _ same (by-test good (λ t. rw t (line-fine (digits 12) true refl)) (λ t. rw t (line-due (digits 12) false refl (λ z. omega arith) refl)))
+  where
+    same : (k : ℕ) → asked k ≡ true → passing (digits 12) good k ≡ fine k ending (decode ending l e)
+    same k a =
+        let no : eqb 0 k ≡ false = ne-eqb 0 k (λ x. asked-some k a (sym x)) in
+        rw (no, g) (sym (and-true _))
+      where
+        and-true : (z : Bool) → (z && true) ≡ z
+        and-true true = refl
+        and-true false = refl
+
+module _ (f : Kind) (s : RowLines) (z : Sizes) (n k : ℕ) (b codes entries : List ℕ) (h : Right f s z n k b codes entries) where
+  S : whole.Sized b
+  S = whole.sized b (h .sized)
+
+  pub few-codes : n ≤ 14
+  few-codes = omega (arith, h .many, S .least, S .most)
+
+  pub codes-there : 77 + 12 * n ≤ length b
+  codes-there = omega (arith, h .many, S .least)
+
+  pub most : length b ≤ 250
+  most = S .most
+
+  long : size (contentLines (rowOf f) k) ≡ 8 * (length b - 77 - 12 * n)
+  long = rw (h .kind, h .count, h .many) (whole.right-size b (h .long))
+
+  pub holding : (d : List ℕ) → d ≡ zeros 35 → Holding f s z k (length b) (24 + 96 * n) d entries
+  holding d e =
+      record {
+        row = h .row;
+        sizes = h .sizes;
+        count = rw (h .count) (whole.count-small b (S .most));
+        known = h .known;
+        start = omega arith;
+        behind = omega arith;
+        inside = omega (arith, long, content-size (rowOf f) k, codes-there);
+        short = S .most;
+        none = e;
+        also-none = h .also-none;
+      }
+
+  pub packet-due : (u v d : ℕ) (good : Bool) → good ≡ inside 0 9 (run (bits b) ((length b - 64) * 8 - 12 * 4) 12 4)
+      → Judged (λ (a : ℕ). fine a (times n code) (decode (times n code) (bits b) 24)) u → Judged (λ (a : ℕ). fine a (contentLines (rowOf f) k) (decode (contentLines (rowOf f) k) (bits b) (24 + 96 * n))) v
+      → d ≡ lesser (lesser u (cond good 255 25)) v → Judged (λ (a : ℕ). fine a (tableOf b) (valuesIn b)) d
+  packet-due u v d good g ju jv e =
+      let m = length b - 77 - 12 * n in
+      let p : (length b - 64) * 8 - 12 * 4 ≡ 24 + 96 * n + 8 * m + 32 = omega (arith, codes-there) in
+      let je = ending-due (bits b) (24 + 96 * n + 8 * m) good (g ∙ ap (λ (x : ℕ). inside 0 9 (run (bits b) x 12 4)) p) in
+      let F : ℕ → Bool = λ a. fine a (times n code) (decode (times n code) (bits b) 24) && fine a ending (decode ending (bits b) (24 + 96 * n + 8 * m)) in
+      let H : ℕ → Bool = λ a. fine a (contentLines (rowOf f) k) (decode (contentLines (rowOf f) k) (bits b) (24 + 96 * n)) in
+      both F H (λ (a : ℕ). fine a (tableOf b) (valuesIn b)) _ v d (both _ _ F u _ _ ju je (λ a x. refl) refl) jv
+      (λ a x. whole.packet-parts a b (asked-not a x) (whole.right-size b (h .long)) ∙ ap₂ _&&_ (sym (whole.frame-at a b n m (h .many) (ap (λ (y : ℕ). length b - 77 - 12 * y) (h .many)))) (sym (whole.content-here a b f k n (h .kind) (h .count) (h .many))))
+      e
+
+  -- ---- what it says
+  pub content-is : (c : Content) → c ≡ contentOf f (numbersAt (rowOf f .before) b (24 + 96 * n)) k → c ≡ contentIn b
+  unfolding frontIn
+  content-is c e = e ∙ rw (h .kind, h .many, h .count)
+
+  pub digits-are : (d e : List ℕ) → Beside f k b (24 + 96 * n) d e → d ≡ padded 35 (digitsIn b)
+  unfolding frontIn backIn
+  digits-are d e x = x .digits-are ∙ rw (h .kind, h .many, h .count)
+
+  pub entries-are : (d e : List ℕ) → Beside f k b (24 + 96 * n) d e → e ≡ padded 272 (cond (hasEntries (kindIn b)) (bodyIn b) [])
+  unfolding bodyIn
+  entries-are d e x = x .entries-are ∙ rw (h .kind, h .many, h .count)
+
+  pub codes-are : (o : List ℕ) → o ≡ padded 322 (numbersAt (times n code) b 24) → o ≡ padded 322 (codesOf b)
+  unfolding codesOf
+  codes-are o e = e ∙ rw (h .many)
+
+  pub certificate-is : (z o : List ℕ) → z ≡ zeros 12 → o ≡ sets z 0 (run (bits b) ((length b - 64) * 8 - 12 * 4) 12 4) → o ≡ run (bits b) (8 * (length b - 70)) 12 4
+  certificate-is z o e g =
+      let p : (length b - 64) * 8 - 12 * 4 ≡ 8 * (length b - 70) = omega (arith, codes-there) in
+      full 12 z o (run (bits b) ((length b - 64) * 8 - 12 * 4) 12 4) e g (length-run (bits b) ((length b - 64) * 8 - 12 * 4) 12 4) ∙ ap (λ (x : ℕ). run (bits b) x 12 4) p
+
+-- all of the fields
+pub fields-are : (b : List ℕ) (t m : ℕ) (c : Content) (d : List ℕ) (x : ℕ) (y g : List ℕ) → t ≡ typeIn b → m ≡ codesIn b → c ≡ contentIn b → d ≡ padded 35 (digitsIn b) → x ≡ at (bits b) (8 * (length b - 74)) 32
+    → y ≡ run (bits b) (8 * (length b - 70)) 12 4 → g ≡ run (bits b) (8 * (length b - 64)) 64 8
+    → _≡_ {A = Fields} (record { typenumber = t; codes = m; content = c; digits = d; time = x; certificate = y; signature = g }) (fieldsOf b)
+unfolding fieldsOf
+fields-are b t m c d x y g et em ec ed ex ey eg = rw (et, em, ec, ed, ex, ey, eg)
+
+-- ---- what is opened beside a number, and beside 0
+pub opened-none : (b : List ℕ) (a : ℕ) → a ≡ readAnswer b → (a ≡ 0 → ⊥) → opened b ≡ refusedAs a
+unfolding opened
+opened-none b a e n = not-opened (readAnswer b) b (λ h. n (e ∙ h)) ∙ ap refusedAs (sym e)
+
+pub opened-all : (b : List ℕ) → readAnswer b ≡ 0 → opened b ≡ openedBy 0 b
+unfolding opened
+opened-all b e = ap (λ (a : ℕ). openedBy a b) e
+
+pub opened-of : (o : Opened) (a : ℕ) (f : Fields) (k e : List ℕ) → a ≡ o .answer → f ≡ o .fields → k ≡ o .codes → e ≡ o .entries → _≡_ {A = Opened} (record { answer = a; fields = f; codes = k; entries = e }) o
+opened-of o a f k e p q r s = rw (p, q, r, s)
+
+pub answered : (b : List ℕ) → opened b .answer ≡ readAnswer b
+unfolding opened
+answered b = go (readAnswer b)
+  where
+    go : (a : ℕ) → openedBy a b .answer ≡ a
+    go zero = refl
+    go (suc a) = refl
