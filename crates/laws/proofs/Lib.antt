@@ -13,3 +13,4 @@ pub mod Words
 pub mod Writes
 pub mod Parts
 pub mod Lists
+pub mod Arms
