@@ -52,20 +52,20 @@ fn codes_length(c: Command) -> usize
 
 // Digits or bytes of at most 6000, 1000 to a word.
 fn all_digits(b: &[u8]) {
-    say::digits(format::part(b, 0, 1000));
-    say::digits(format::part(b, 1000, 1000));
-    say::digits(format::part(b, 2000, 1000));
-    say::digits(format::part(b, 3000, 1000));
-    say::digits(format::part(b, 4000, 1000));
-    say::digits(format::part(b, 5000, 1000));
+    say::digits(octets::part(b, 0, 1000));
+    say::digits(octets::part(b, 1000, 1000));
+    say::digits(octets::part(b, 2000, 1000));
+    say::digits(octets::part(b, 3000, 1000));
+    say::digits(octets::part(b, 4000, 1000));
+    say::digits(octets::part(b, 5000, 1000));
 }
 
 // What was written at the start of the memory lent, and whether the rest is as it was.
 fn memory(w: Written, lent: &[u8]) {
     say::one(b"encode", w.answer as u64);
-    say::hex(format::part(lent, 0, input::least(w.length, 1600)));
-    say::hex(format::part(format::part(lent, 0, w.length), 1600, 1600));
-    if say::all(format::part(lent, w.length, 3200), 0xEE) {
+    say::hex(octets::part(lent, 0, input::least(w.length, 1600)));
+    say::hex(octets::part(octets::part(lent, 0, w.length), 1600, 1600));
+    if say::all(octets::part(lent, w.length, 3200), 0xEE) {
         say::text(b"\nthe rest as it was\n");
     } else {
         say::text(b"\nthe rest CHANGED\n");
@@ -82,8 +82,8 @@ fn shown(o: Opened, address: &[u8]) {
     say::text(b"\naddress");
     say::hex(address);
     say::text(b"\ncodes");
-    all_digits(format::part(&codes, 0, n));
-    if !say::all(format::part(&codes, n, 5865), 0) {
+    all_digits(octets::part(&codes, 0, n));
+    if !say::all(octets::part(&codes, n, 5865), 0) {
         say::text(b"\na code past the last");
     }
     say::text(b"\n");
@@ -102,13 +102,13 @@ fn carried(c: Command, codes: &[u8]) {
 fn back(o: Opened, address: &[u8]) {
     let c = o.command;
     let codes = o.codes;
-    let lent = format::part(&codes, 0, codes_length(c));
+    let lent = octets::part(&codes, 0, codes_length(c));
     carried(c, lent);
     encoded(c, address, lent, 3200);
 }
 
 pub(crate) fn read(b: &[u8]) {
-    let bytes = format::part(b, 3, 65536);
+    let bytes = octets::part(b, 3, 65536);
     let address = sister::address(bytes);
     let o = sister::read(bytes);
     shown(o, address);
@@ -152,14 +152,14 @@ pub(crate) fn write(b: &[u8]) {
     let n = input::two(b, 15) as usize;
     encoded(
         given(b),
-        format::part(b, 19, n),
-        format::part(b, 19 + n, 65536),
+        octets::part(b, 19, n),
+        octets::part(b, 19 + n, 65536),
         input::two(b, 13) as usize,
     );
 }
 
 pub(crate) fn carry(b: &[u8]) {
-    let digits = format::part(b, 12, 35);
+    let digits = octets::part(b, 12, 35);
     say::text(b"carried");
     command(carry::command_of(writing::content(b)));
     say::text(b"\ncode");

@@ -108,7 +108,7 @@ fn receiver_after(r: Receiver, b: &[u8]) -> Receiver {
     match octets::byte(b, 0) {
         b'R' => received(
             r,
-            format::part(b, 6, 65536),
+            octets::part(b, 6, 65536),
             input::two(b, 1) as usize,
             octets::byte(b, 3) as usize,
             &mut [0xEEu8; 400],
@@ -123,7 +123,7 @@ fn receiver_after(r: Receiver, b: &[u8]) -> Receiver {
 // The collector behind a record.
 fn collector_after(c: Holdings, b: &[u8]) -> Holdings {
     match octets::byte(b, 0) {
-        b'O' => offered(c, format::part(b, 3, 65536)),
+        b'O' => offered(c, octets::part(b, 3, 65536)),
         b'F' => released(c, octets::byte(b, 1), octets::byte(b, 2)),
         b'C' => {
             copied(

@@ -93,18 +93,18 @@ fn asked(b: &[u8]) {
 fn main() {
     let mut records = io::large_buffer();
     let n = io::read_full(STDIN_FILENO, &mut records);
-    let all = format::part(&records, 0, n);
+    let all = octets::part(&records, 0, n);
     let end = input::least(all.len(), 65536);
     let mut kept = keeping::begin();
     let mut i: usize = 0;
     while i < end {
-        let length = length_of(format::part(all, i, 65536));
+        let length = length_of(octets::part(all, i, 65536));
         if length == 0 {
             say::text(b"no whole record\n");
             return;
         }
-        asked(format::part(all, i, length));
-        kept = keeping::after(kept, format::part(all, i, length));
+        asked(octets::part(all, i, length));
+        kept = keeping::after(kept, octets::part(all, i, length));
         say::text(b"\n");
         i += length;
     }

@@ -83,13 +83,13 @@ fn last_fields(f: Fields) {
 // Codes and entries, and whether there are only zeros past the last.
 fn lists(codes: &[u8], n: usize, entries: &[u8], k: usize) {
     say::text(b"\ncodes");
-    say::digits(format::part(codes, 0, n));
+    say::digits(octets::part(codes, 0, n));
     say::text(b"\nentries");
-    say::hex(format::part(entries, 0, k));
-    if !say::all(format::part(codes, n, 322), 0) {
+    say::hex(octets::part(entries, 0, k));
+    if !say::all(octets::part(codes, n, 322), 0) {
         say::text(b"\na code past the last");
     }
-    if !say::all(format::part(entries, k, 272), 0) {
+    if !say::all(octets::part(entries, k, 272), 0) {
         say::text(b"\nan entry past the last");
     }
 }
@@ -132,15 +132,15 @@ fn back(o: Opened, packet: &[u8]) {
     let n = codes_length(f.codes);
     let k = entries_length(c);
     if k == 0 {
-        written(f, format::part(&codes, 0, n), reader::body(packet));
+        written(f, octets::part(&codes, 0, n), reader::body(packet));
     } else {
-        written(f, format::part(&codes, 0, n), format::part(&entries, 0, k));
+        written(f, octets::part(&codes, 0, n), octets::part(&entries, 0, k));
     }
 }
 
 // A whole record.
 pub(crate) fn record(b: &[u8]) {
-    let packet = format::part(b, 3, 65536);
+    let packet = octets::part(b, 3, 65536);
     let o = reader::read(packet);
     shown(o);
     text_and_body(packet);

@@ -9,7 +9,7 @@ pub(crate) fn text(b: &[u8]) {
 // # and the length of a name, in one byte, and the name: a line of it.
 pub(crate) fn name(b: &[u8]) {
     text(b"# ");
-    text(format::part(b, 2, 255));
+    text(octets::part(b, 2, 255));
     text(b"\n");
 }
 
@@ -44,7 +44,7 @@ pub(crate) fn hex(b: &[u8]) {
         line[2 * i + 1] = glyph(x % 16);
         i += 1;
     }
-    spaced(format::part(&line, 0, 2 * n));
+    spaced(octets::part(&line, 0, 2 * n));
 }
 
 // A space and a character for each digit; a dash where there is none.
@@ -56,7 +56,7 @@ pub(crate) fn digits(b: &[u8]) {
         line[i] = glyph(b[i]);
         i += 1;
     }
-    spaced(format::part(&line, 0, n));
+    spaced(octets::part(&line, 0, n));
 }
 
 fn spaced(b: &[u8]) {
@@ -82,8 +82,8 @@ pub(crate) fn all(b: &[u8], x: u8) -> bool {
 
 // The bytes that were written at the start of lent memory, which was 0xEE throughout; then whether the rest still is.
 pub(crate) fn memory(lent: &[u8], written: usize) {
-    hex(format::part(lent, 0, written));
-    if all(format::part(lent, written, 2300), 0xEE) {
+    hex(octets::part(lent, 0, written));
+    if all(octets::part(lent, written, 2300), 0xEE) {
         text(b"\nthe rest as it was\n");
     } else {
         text(b"\nthe rest CHANGED\n");

@@ -23,7 +23,7 @@ fn sent(packet: &[u8], level: u8, version: u8, n: usize, memory: &mut [u8]) {
 // A whole record.
 pub(crate) fn record(b: &[u8]) {
     sent(
-        format::part(b, 7, 65536),
+        octets::part(b, 7, 65536),
         octets::byte(b, 1),
         octets::byte(b, 2),
         input::two(b, 3) as usize,
@@ -32,7 +32,7 @@ pub(crate) fn record(b: &[u8]) {
 }
 
 pub(crate) fn check(b: &[u8]) {
-    let word = crc::packet_check(format::part(b, 3, 65536));
+    let word = crc::packet_check(octets::part(b, 3, 65536));
     say::text(b"check");
     say::hex(&[(word / 256) as u8, (word % 256) as u8]);
     say::text(b"\n");

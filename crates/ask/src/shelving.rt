@@ -49,11 +49,11 @@ pub(crate) fn add(b: &[u8]) {
     let m = input::two(b, 7) as usize;
     let mut space = space();
     let e = input::least(input::four(b, 1) as usize, 1048833);
-    repeat(format::part(b, 11, n), &mut space);
+    repeat(octets::part(b, 11, n), &mut space);
     added(
-        format::part(&space, 0, e),
-        format::part(b, 11 + n, m),
-        format::part(b, 11 + n + m, 65536),
+        octets::part(&space, 0, e),
+        octets::part(b, 11 + n, m),
+        octets::part(b, 11 + n + m, 65536),
         &mut [0xEEu8; 300],
     );
 }
@@ -74,9 +74,9 @@ fn summarized(shelf: &[u8], n: usize, memory: &mut [u8]) {
 pub(crate) fn summarize(b: &[u8]) {
     let mut space = space();
     let e = input::least(input::four(b, 1) as usize, 1048833);
-    repeat(format::part(b, 9, 65536), &mut space);
+    repeat(octets::part(b, 9, 65536), &mut space);
     summarized(
-        format::part(&space, 0, e),
+        octets::part(&space, 0, e),
         input::two(b, 5) as usize,
         &mut [0xEEu8; 300],
     );
@@ -94,7 +94,7 @@ pub(crate) fn make(b: &[u8]) {
     made(
         octets::byte(b, 1),
         octets::byte(b, 2),
-        format::part(b, 7, 65536),
+        octets::part(b, 7, 65536),
         input::two(b, 3) as usize,
         &mut [0xEEu8; 300],
     );
@@ -110,7 +110,7 @@ fn lined(given: &[u8], n: usize, memory: &mut [u8]) {
 // A whole record.
 pub(crate) fn line(b: &[u8]) {
     lined(
-        format::part(b, 5, 65536),
+        octets::part(b, 5, 65536),
         input::two(b, 1) as usize,
         &mut [0xEEu8; 600],
     );

@@ -10,9 +10,9 @@ fn story(b: &[u8]) -> Story {
     let mut digits = [0u8; 35];
     let mut certificate = [0u8; 12];
     let mut signature = [0u8; 64];
-    input::fill(format::part(b, 4, 35), &mut digits);
-    input::fill(format::part(b, 43, 12), &mut certificate);
-    input::fill(format::part(b, 55, 64), &mut signature);
+    input::fill(octets::part(b, 4, 35), &mut digits);
+    input::fill(octets::part(b, 43, 12), &mut certificate);
+    input::fill(octets::part(b, 55, 64), &mut signature);
     Story {
         kind: octets::byte(b, 1),
         digits: digits,
@@ -37,8 +37,8 @@ pub(crate) fn tell(b: &[u8]) {
     let n = input::two(b, 121) as usize;
     told(
         story(b),
-        format::part(b, 125, n),
-        format::part(b, 125 + n, 65536),
+        octets::part(b, 125, n),
+        octets::part(b, 125 + n, 65536),
         input::two(b, 119) as usize,
         &mut [0xEEu8; 2300],
     );
@@ -54,7 +54,7 @@ fn joined(packets: &[u8], n: usize, memory: &mut [u8]) {
 // A whole record.
 pub(crate) fn join(b: &[u8]) {
     joined(
-        format::part(b, 5, 65536),
+        octets::part(b, 5, 65536),
         input::two(b, 1) as usize,
         &mut [0xEEu8; 1400],
     );

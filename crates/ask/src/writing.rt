@@ -48,9 +48,9 @@ fn fields(b: &[u8]) -> Fields {
     let mut digits = [0u8; 35];
     let mut certificate = [0u8; 12];
     let mut signature = [0u8; 64];
-    input::fill(format::part(b, 12, 35), &mut digits);
-    input::fill(format::part(b, 51, 12), &mut certificate);
-    input::fill(format::part(b, 63, 64), &mut signature);
+    input::fill(octets::part(b, 12, 35), &mut digits);
+    input::fill(octets::part(b, 51, 12), &mut certificate);
+    input::fill(octets::part(b, 63, 64), &mut signature);
     let c = content(b);
     Fields {
         typenumber: octets::byte(b, 1),
@@ -76,8 +76,8 @@ pub(crate) fn record(b: &[u8]) {
     let n = input::two(b, 129) as usize;
     written(
         fields(b),
-        format::part(b, 133, n),
-        format::part(b, 133 + n, 65536),
+        octets::part(b, 133, n),
+        octets::part(b, 133 + n, 65536),
         input::two(b, 127) as usize,
         &mut [0xEEu8; 300],
     );

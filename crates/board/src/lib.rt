@@ -76,7 +76,7 @@ fn take_whole(board: Board, frame: &[u8], offered: Outcome, out: &mut [u8]) -> H
     let n = collector::copy(c, h.level, h.version, &mut packet).length;
     let d = collector::release(c, h.level, h.version).collector;
     let s = board.stories;
-    let shown = stories::take_in(s, format::part(&packet, 0, n), out);
+    let shown = stories::take_in(s, octets::part(&packet, 0, n), out);
     let level = level_with(shown.answer, h.level);
     let number = shown.number;
     let t = shown.stories;

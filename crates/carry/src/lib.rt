@@ -107,12 +107,12 @@ fn padded(xs: &[u8]) -> [u8; 35]
 pub fn digits_of(command: Command, codes: &[u8]) -> [u8; 35]
     ensures { λ r. ⌜ r ≡ digitsFor command (now (codes .entry)) ⌝ }
 {
-    padded(format::part(codes, 0, code_digits(command)))
+    padded(octets::part(codes, 0, code_digits(command)))
 }
 
 // The digits of the code of a content's command, of those beside the content.
 pub fn code_of(content: Content, digits: &[u8]) -> &[u8]
     ensures { λ r. ⌜ now r ≡ codeFor content (now (digits .entry)) ⌝ }
 {
-    format::part(digits, 0, code_digits(command_of(content)))
+    octets::part(digits, 0, code_digits(command_of(content)))
 }

@@ -125,8 +125,8 @@ fn put_record(left: &[u8], right: &[u8], n: usize, so: Listing, out: &mut [u8]) 
     }
     put_both(
         n,
-        format::part(left, 256 * n, 256),
-        format::part(right, 256 * n, 256),
+        octets::part(left, 256 * n, 256),
+        octets::part(right, 256 * n, 256),
         so,
         out,
     )

@@ -48,13 +48,13 @@ fn main() {
     let m = read(b"right", &mut right);
     let mut text = report();
     let compared = compare::list(
-        format::part(&left, 0, n),
-        format::part(&right, 0, m),
+        octets::part(&left, 0, n),
+        octets::part(&right, 0, m),
         &mut text,
     );
     if compared.answer != 0 {
         say(compared.answer, compared.right);
         return;
     }
-    io::write_all(STDOUT_FILENO, format::part(&text, 0, compared.length));
+    io::write_all(STDOUT_FILENO, octets::part(&text, 0, compared.length));
 }

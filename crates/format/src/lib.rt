@@ -6,7 +6,7 @@ ghost use lib.Seq.{sets};
 ghost use Rattle.laws.specs.Bits.{at, bitsOf, run, spread, bits};
 ghost use mathlib.Core.Bool.{true};
 ghost use Rattle.format.specs.Format.{inside};
-ghost use Rattle.format.specs.Reach.{reach, partOf, fieldRead, fieldsRead, inRange, fieldBits, fieldsBits};
+ghost use Rattle.format.specs.Reach.{reach, fieldRead, fieldsRead, inRange, fieldBits, fieldsBits};
 
 // A line: n numbers of w bits, each lo to hi; other is what a reader answers where one is not.
 // A line that is not free has no numbers of its own: each of its numbers is lo.
@@ -31,22 +31,6 @@ fn reaches(p: usize, n: usize, w: usize) -> bool
 }
 
 // ---- reading
-
-// k bytes from a byte on; as many as there are.
-pub fn part(b: &[u8], from: usize, k: usize) -> &[u8]
-    ensures { λ r. ⌜ now r ≡ partOf (now (b .entry)) from k ⌝ }
-{
-    let p = b.len();
-    if p <= from {
-        return &b[0..0];
-    }
-    if k < p - from {
-        let e = from + k;
-        &b[from..e]
-    } else {
-        &b[from..p]
-    }
-}
 
 // The smaller of two.
 fn least(a: usize, b: usize) -> usize

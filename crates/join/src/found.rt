@@ -59,7 +59,7 @@ fn text_at(packets: &[u8], i: usize) -> &[u8]
 {
     let b = lent::piece(packets, i);
     let t = lent::body_of(b);
-    format::part(t, 4, t.len())
+    octets::part(t, 4, t.len())
 }
 
 // Whether a message number is k after the first.

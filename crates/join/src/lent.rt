@@ -14,7 +14,7 @@ ghost use Rattle.join.specs.Places.{pieceAt};
 fn size_at(packets: &[u8], i: usize) -> usize
     ensures { λ r. ⌜ r ≡ packetSize (drop i (now (packets .entry))) ⌝ }
 {
-    let b = format::part(packets, i, packets.len());
+    let b = octets::part(packets, i, packets.len());
     size::packet_size(b)
 }
 
@@ -33,7 +33,7 @@ pub(crate) fn piece(packets: &[u8], i: usize) -> &[u8]
     ensures { λ r. ⌜ now r ≡ pieceAt (now (packets .entry)) i ⌝ }
 {
     let size = size_at(packets, i);
-    format::part(packets, i, size)
+    octets::part(packets, i, size)
 }
 
 // How many packets there are, ten at most.
@@ -81,7 +81,7 @@ pub(crate) fn body_of(b: &[u8]) -> &[u8]
 {
     let n = format::field(b, 16, 8) as usize;
     let t = format::field(b, 176 + 96 * n, 8) as usize;
-    format::part(b, 23 + 12 * n, t)
+    octets::part(b, 23 + 12 * n, t)
 }
 
 // Whether a part's body begins with the head of the part of n that has k before it.
@@ -90,7 +90,7 @@ fn headed(b: &[u8], k: usize, n: usize) -> bool
     ensures { λ r. ⌜ r ≡ hasHead (headOf (k + 1) n) (now (b .entry)) ⌝ }
 {
     let t = body_of(b);
-    let u = format::part(t, 0, 4);
+    let u = octets::part(t, 0, 4);
     if u.len() != 4 {
         return false;
     }

@@ -57,7 +57,7 @@ fn put_behind(shelf: &mut [u8], length: usize, given: &[u8]) -> usize {
 
 // Adds a record and says so; the shelf's length then.
 fn keep(shelf: &mut [u8], length: usize, summary: &mut [u8], given: &[u8]) -> usize {
-    let answer = shelf::add(format::part(shelf, 0, length), given, summary);
+    let answer = shelf::add(octets::part(shelf, 0, length), given, summary);
     io::write_all(STDOUT_FILENO, &[answer]);
     if answer != 0 {
         return length;
@@ -74,7 +74,7 @@ fn take_whole(k: Keeping, frame: &[u8], shelf: &mut [u8], summary: &mut [u8]) ->
     let mut packet = [0u8; 250];
     let n = collector::copy(c, h.level, h.version, &mut packet).length;
     let mut record = [0u8; 256];
-    shelf::make(h.level, h.version, format::part(&packet, 0, n), &mut record);
+    shelf::make(h.level, h.version, octets::part(&packet, 0, n), &mut record);
     let length = keep(shelf, k.length, summary, &record);
     let d = collector::release(c, h.level, h.version).collector;
     Keeping {
@@ -118,7 +118,7 @@ fn hear_all(k: Keeping, out: &[u8], n: usize, shelf: &mut [u8], summary: &mut [u
     let mut i: usize = 0;
     let mut at: usize = 0;
     while i < n {
-        now = hear(now, format::part(out, at, 8), shelf, summary);
+        now = hear(now, octets::part(out, at, 8), shelf, summary);
         at = std::num::wrapping_add_usize(at, 8);
         i += 1;
     }
@@ -133,7 +133,7 @@ fn take_air(h: Hearing, shelf: &mut [u8], summary: &mut [u8]) -> Hearing {
     let mut frames = [0u8; 320];
     let mut counts = [0u8; 40];
     let r = h.receiver;
-    let received = receiver::receive(r, format::part(&delivery, 0, n), &mut frames, &mut counts);
+    let received = receiver::receive(r, octets::part(&delivery, 0, n), &mut frames, &mut counts);
     let k = h.keeping;
     let keeping = hear_all(k, &frames, received.frames, shelf, summary);
     let receiver = received.receiver;
@@ -159,7 +159,7 @@ fn run(length: usize, shelf: &mut [u8], summary: &mut [u8]) {
 
 fn start(length: usize, shelf: &mut [u8]) {
     let mut summary = [0u8; 256];
-    let answer = shelf::summarize(format::part(shelf, 0, length), &mut summary);
+    let answer = shelf::summarize(octets::part(shelf, 0, length), &mut summary);
     io::write_all(STDOUT_FILENO, &[answer]);
     if answer != 0 {
         return;

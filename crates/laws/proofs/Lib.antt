@@ -14,3 +14,4 @@ pub mod Writes
 pub mod Parts
 pub mod Lists
 pub mod Strips
+pub mod Arms

@@ -70,7 +70,7 @@ looked-up s f h g =
     ∙ lane (λ (i : ℕ). entryFor (k * 4 + i)) (λ i l. entry-small (k * 4 + i) (omega arith)) (s % 4) (omega arith)
     ∙ ap entryFor same
 
--- ---- what `mend::mended` makes of an entry
+-- ---- what `mend::mended_by` makes of an entry
 -- a change is 0 just where its remainder is
 both-zero : (s p : ℕ) → Corrects s p → (p ≡ none → ⊥) → eqb p 0 ≡ eqb s 0
 unfolding syndrome remainder reduce

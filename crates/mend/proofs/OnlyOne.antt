@@ -1,7 +1,7 @@
 -- At most one block fits, the table tells which, and `mendedOf` gives it. Assumes nothing.
 use mathlib.Core.Path.{_≡_, refl, sym, ap, ap₂, _∙_, subst}
 use mathlib.Core.Bool.{Bool, true, false, true≢false, not, _&&_}
-use Prim.Native.Nat.{ℕ, _*_, _/_, _%_, _^_, _<_, _≤_}
+use Prim.Native.Nat.{ℕ, _*_, _/_, _%_, _^_, _<_}
 use native.Mathlib.Nat.{mod-lt}
 use native.Mathlib.Omega.{arith}
 use borrow.Author.Tests.{eq-eqb, ne-eqb, eqb-true, ltb-true}
@@ -18,14 +18,14 @@ use Rattle.block.proofs.Validity.{syndrome-xor, syndrome-block, valid-remainder
 use Rattle.mend.specs.Mend.{near, fits, nothing, mendedOf}
 use Rattle.mend.specs.Table.{none, changeFor, Corrects}
 use Rattle.mend.proofs.Rule.{table-corrects}
-use Rattle.mend.proofs.Near.{narrow-lt, near-narrow, narrow-near, near-lt}
+use Rattle.mend.proofs.Near.{narrow-lt, near-narrow, narrow-near}
 use Rattle.mend.proofs.Search.{used, sought-none, sought-one}
 
 -- the entry asked for: the remainder less the letter's offset
 abbrev pub indexOf : ℕ → Letter → ℕ
 indexOf bits letter = syndrome bits ⊕ offsetOf letter
 
--- as the code finds it
+-- the check bits as they should be, with those that are there
 pub index-is : (bits : ℕ) (letter : Letter) → checkWord (bits / 2 ^ 10) (offsetOf letter) ⊕ bits % 2 ^ 10 ≡ indexOf bits letter
 unfolding checkWord
 index-is bits letter =
@@ -34,10 +34,6 @@ index-is bits letter =
     let k = bits % 2 ^ 10 in
     xor-assoc s o k ∙ ap (λ (x : ℕ). s ⊕ x) (xor-comm o k) ∙ sym (xor-assoc s k o)
     ∙ ap (λ (x : ℕ). x ⊕ o) (sym (syndrome-block (bits / 2 ^ 10) k (mod-lt bits (pow-pos 10))) ∙ ap syndrome (split bits 10))
-
-pub index-found : (bits : ℕ) (letter : Letter) (o r : ℕ) → o ≡ offsetOf letter → r ≡ syndrome (bits / 2 ^ 10 * 2 ^ 10) → (r ⊕ o) ⊕ bits % 2 ^ 10 ≡ indexOf bits letter
-unfolding checkWord
-index-found bits letter o r p q = ap₂ (λ (x y : ℕ). (x ⊕ y) ⊕ bits % 2 ^ 10) q p ∙ index-is bits letter
 
 pub index-lt : (bits : ℕ) (letter : Letter) → indexOf bits letter < 2 ^ 10
 index-lt bits letter =
@@ -52,16 +48,6 @@ fits-is bits letter c t = and-both (isValid c letter) (near 22 c bits) t
 pub valid-lt : (c : ℕ) (letter : Letter) → isValid c letter ≡ true → c < 2 ^ 26
 unfolding isValid carries
 valid-lt c letter t = ltb-true c (2 ^ 26) (and-left (ltb c (2 ^ 26)) (eqb (checkWord (c / 2 ^ 10) (offsetOf letter)) (c % 2 ^ 10)) t)
-
--- no number of 2^26 or more has one
-pub too-wide : (bits : ℕ) (letter : Letter) → 2 ^ 26 ≤ bits → mendedOf bits letter ≡ nothing
-unfolding mendedOf
-too-wide bits letter h =
-    sought-none (2 ^ 26) bits letter
-    (λ c t.
-    let f = fits-is bits letter c t in
-    let l : bits < 2 ^ 26 = near-lt c bits (f .1) (valid-lt c letter (f .0)) in
-    omega arith)
 
 -- the entry p at the index decides
 module _ (bits : ℕ) (letter : Letter) (p : ℕ) (e : Corrects (indexOf bits letter) p) where

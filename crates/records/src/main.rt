@@ -15,8 +15,8 @@ fn print(shelf: &[u8], n: usize) {
     let mut i: usize = 0;
     while i < n {
         let mut text = [0u8; 510];
-        let written = shelf::line(format::part(shelf, at, 256), &mut text);
-        io::write_all(STDOUT_FILENO, format::part(&text, 0, written.length));
+        let written = shelf::line(octets::part(shelf, at, 256), &mut text);
+        io::write_all(STDOUT_FILENO, octets::part(&text, 0, written.length));
         at = std::num::wrapping_add_usize(at, 256);
         i += 1;
     }
@@ -52,5 +52,5 @@ fn main() {
         say(34);
         return;
     }
-    show(format::part(&space, 0, n));
+    show(octets::part(&space, 0, n));
 }

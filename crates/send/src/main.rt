@@ -39,7 +39,7 @@ fn bytes_of(frames: usize) -> usize {
 fn put(packet: &[u8], level: u8, version: u8) -> u8 {
     let mut out = [0u8; 819];
     let aired = air::on_air(packet, level, version, &mut out);
-    io::write_all(STDOUT_FILENO, format::part(&out, 0, bytes_of(aired.frames)));
+    io::write_all(STDOUT_FILENO, octets::part(&out, 0, bytes_of(aired.frames)));
     aired.answer
 }
 
@@ -57,8 +57,8 @@ fn put_all(packets: &[u8], parts: usize, level: u8, first: u8) {
     let mut last: usize = 0;
     let mut k: usize = 0;
     while k < parts {
-        last = size::packet_size(format::part(packets, at, 2));
-        let answer = put(format::part(packets, at, last), level, version);
+        last = size::packet_size(octets::part(packets, at, 2));
+        let answer = put(octets::part(packets, at, last), level, version);
         if answer != 0 {
             say(answer, 0, 0);
             return;
@@ -75,8 +75,8 @@ fn send(b: &[u8]) {
     let n = codes_length(b);
     let told = tell::tell(
         story(b),
-        format::part(b, 119, n),
-        format::part(b, 119 + n, 65536),
+        octets::part(b, 119, n),
+        octets::part(b, 119 + n, 65536),
         &mut packets,
     );
     if told.answer != 0 {
@@ -84,7 +84,7 @@ fn send(b: &[u8]) {
         return;
     }
     put_all(
-        format::part(&packets, 0, told.length),
+        octets::part(&packets, 0, told.length),
         told.parts,
         octets::byte(b, 0),
         octets::byte(b, 1),
@@ -95,5 +95,5 @@ fn send(b: &[u8]) {
 fn main() {
     let mut record = io::large_buffer();
     let n = io::read_full(STDIN_FILENO, &mut record);
-    send(format::part(&record, 0, n));
+    send(octets::part(&record, 0, n));
 }

@@ -58,13 +58,13 @@ fn is_right(given: &[u8]) -> bool
     if size > 250 {
         return false;
     }
-    if size != size::packet_size(format::part(given, 4, size)) {
+    if size != size::packet_size(octets::part(given, 4, size)) {
         return false;
     }
-    if !all_are(format::part(given, 4 + size, 250 - size), 0xFF) {
+    if !all_are(octets::part(given, 4 + size, 250 - size), 0xFF) {
         return false;
     }
-    all_are(format::part(given, 254, 2), 0)
+    all_are(octets::part(given, 254, 2), 0)
 }
 
 // Whether there are whole records, and 4,096 of them at most.
@@ -84,7 +84,7 @@ fn are_right(shelf: &[u8]) -> bool
     let n = shelf.len() / 256;
     let mut i: usize = 0;
     while i < n {
-        if !is_right(format::part(shelf, 256 * i, 256)) {
+        if !is_right(octets::part(shelf, 256 * i, 256)) {
             return false;
         }
         i += 1;
@@ -226,7 +226,7 @@ pub fn line(given: &[u8], out: &mut [u8]) -> Written
     let n = print::record_line(
         octets::byte(given, 0),
         octets::byte(given, 1),
-        format::part(given, 4, size),
+        octets::part(given, 4, size),
         out,
     );
     if n == 0 {

@@ -71,7 +71,7 @@ pub(crate) fn count(shelf: &[u8], summary: &mut [u8])
     while i < n {
         note(
             summary,
-            type_in(format::part(shelf, 256 * i, 256)),
+            type_in(octets::part(shelf, 256 * i, 256)),
             i as u32,
         );
         i += 1;

@@ -42,7 +42,7 @@ fn hear(b: Board, frame: &[u8]) -> Board {
             heard.level,
             heard.parts,
             &number,
-            format::part(&out, 0, heard.length),
+            octets::part(&out, 0, heard.length),
         );
     }
     heard.board
@@ -54,7 +54,7 @@ fn hear_all(b: Board, out: &[u8], n: usize) -> Board {
     let mut k: usize = 0;
     let mut at: usize = 0;
     while k < n {
-        now = hear(now, format::part(out, at, 8));
+        now = hear(now, octets::part(out, at, 8));
         at = std::num::wrapping_add_usize(at, 8);
         k += 1;
     }
@@ -69,7 +69,7 @@ fn take_air(h: Hearing) -> Hearing {
     let mut frames = [0u8; 320];
     let mut counts = [0u8; 40];
     let r = h.receiver;
-    let received = receiver::receive(r, format::part(&delivery, 0, n), &mut frames, &mut counts);
+    let received = receiver::receive(r, octets::part(&delivery, 0, n), &mut frames, &mut counts);
     let b = h.board;
     let board = hear_all(b, &frames, received.frames);
     let receiver = received.receiver;

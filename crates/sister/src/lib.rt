@@ -73,7 +73,7 @@ pub fn address(command: &[u8]) -> &[u8]
 {
     if judge::answer(command) == 0 {
         let l = parts::laid_in(command);
-        format::part(command, 4, l.address)
+        octets::part(command, 4, l.address)
     } else {
         &command[0..0]
     }

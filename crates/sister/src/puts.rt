@@ -105,7 +105,7 @@ fn put_codes(out: &mut [u8], p: usize, n: usize, codes: &[u8])
     let mut j: usize = 0;
     while j < n {
         format::put_field(out, q, 4, 15);
-        format::put_fields(out, q + 4, 4, format::part(codes, i, 23));
+        format::put_fields(out, q + 4, 4, octets::part(codes, i, 23));
         q += 96;
         i += 23;
         j += 1;

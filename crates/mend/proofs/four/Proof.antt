@@ -1,24 +1,10 @@
 -- `mend::four` meets its contract: each number is computed. Assumes nothing.
 use mathlib.Core.Path.{_≡_, sym, ap}
-use Prim.Native.Nat.{ℕ, zero, suc, _≤_}
-use native.Mathlib.Decide.{decLt}
 use native.Mathlib.Omega.{arith}
+use Rattle.laws.proofs.Arms.{Apart, not-below}
 use Rattle.mend.specs.Table.{overX, changeFrom, changeFor, entryOf, entryFor, fourOf}
 use Rattle.mend.proofs.four.Statement.{statement}
 use Rattle.mend.proofs.four.Tie as tie
-
--- a number is none of those below n
-Apart : ℕ → ℕ → Type 0
-Apart zero k = Unit
-Apart (suc n) k = Apart n k × (k ≡ n → ⊥)
-
-not-below : (n k : ℕ) → Apart n k → n ≤ k
-unfolding Apart
-not-below zero k a = omega arith
-not-below (suc n) k a = elim (decLt n k) [
-  | yes l ↦ l
-  | no l ↦ let h = not-below n k (a .0) in let e : k ≡ n = omega arith in absurd (a .1 e)
-]
 
 returns : tie.Need-returns
 unfolding fourOf entryFor entryOf changeFor changeFrom overX

@@ -1,9 +1,8 @@
 -- `table::line_at` meets its contract: each line is computed. Assumes nothing.
-use mathlib.Core.Path.{_≡_, sym, ap, _∙_}
-use Prim.Native.Nat.{ℕ, zero, suc, _≤_}
-use native.Mathlib.Decide.{decLt}
-use native.Mathlib.Omega.{arith}
+use mathlib.Core.Path.{sym, ap, _∙_}
+use Prim.Native.Nat.{ℕ}
 use lib.ListN.{getD, List·getD-eq-default}
+use Rattle.laws.proofs.Arms.{Apart, not-below}
 use Rattle.format.specs.declared.Line.{Line}
 use Rattle.format.specs.Format.{octets}
 use Rattle.packet.specs.InCode.{linesOfEach, everyLine}
@@ -14,19 +13,6 @@ use Rattle.table.proofs.line_at.Tie as tie
 -- the line at a place
 abbrev line : ℕ → Line
 line i = getD everyLine i (octets 0)
-
--- a place is none of those below n
-Apart : ℕ → ℕ → Type 0
-Apart zero i = Unit
-Apart (suc n) i = Apart n i × (i ≡ n → ⊥)
-
-not-below : (n i : ℕ) → Apart n i → n ≤ i
-unfolding Apart
-not-below zero i a = omega arith
-not-below (suc n) i a = elim (decLt n i) [
-  | yes l ↦ l
-  | no l ↦ let h = not-below n i (a .0) in let e : i ≡ n = omega arith in absurd (a .1 e)
-]
 
 a-ones-requires : tie.Need-a-ones-requires
 a-ones-requires c κs = search needs
