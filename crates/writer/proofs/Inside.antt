@@ -1,22 +1,19 @@
--- Loops that test numbers against ranges: of a list, of a line, of lines, of rows of lines. Assumes nothing.
-use mathlib.Core.Path.{_≡_, refl, sym, ap, _∙_}
+-- Loops that test numbers against ranges: of a list, of a line, of lines. Assumes nothing.
+use mathlib.Core.Path.{_≡_, refl, sym, _∙_}
 use mathlib.Core.Bool.{true, false, _&&_}
-use mathlib.Core.List.{List, _++_}
-use Prim.Native.Nat.{ℕ, zero, suc, _+_, _-_, _*_, _<_, _≤_}
-use native.Mathlib.Nat.{suc-mul}
+use mathlib.Core.List.{List}
+use Prim.Native.Nat.{ℕ, zero, suc, _+_, _<_, _≤_}
 use native.Mathlib.Numerals.{add-one}
 use native.Mathlib.Omega.{arith}
-use lib.ListN.{length, getD, take, drop, replicate, length-drop, drop-of-length-le, take-append-drop}
+use lib.ListN.{length, getD, take, drop, replicate, length-drop, drop-of-length-le}
 use lib.Dec.{leb}
-use lib.Seq.{drop-cons, drop-drop, length-take-le, take-take, getD-take, getD-drop}
+use lib.Seq.{drop-cons, drop-drop, length-take-le, getD-take, getD-drop}
 use Rattle.laws.proofs.Elements.{by-test}
 use borrow.Author.Tests.{le-leb, lt-leb}
 use Rattle.format.specs.declared.Line.{Line}
-use Rattle.format.specs.Format.{own, need, inside, lineOk, fine, fill, times}
-use Rattle.format.proofs.Tables.{fill-join, fine-join, length-fill}
+use Rattle.format.specs.Format.{own, inside, lineOk, fine, fill}
 use Rattle.packet.proofs.Loops.{lines-cons}
 use Rattle.writer.specs.Puts.{valueOf}
-use Rattle.writer.proofs.Rows.{same-fill}
 
 -- ---- numbers
 module _ (xs : List ℕ) (lo hi j : ℕ) (h : j < length xs) where
@@ -80,24 +77,3 @@ lines-turn a T j d t h e xs i = rw (lines-cons T j d t h e, drop-drop (own t) i 
 pub lines-done : (a : ℕ) (T : List Line) (j : ℕ) → length T ≤ j → (xs : List ℕ) → fine a (drop j T) (fill (drop j T) xs) ≡ true
 unfolding fine
 lines-done a T j k xs = rw (drop-of-length-le T {i = j} k)
-
--- ---- rows of lines
-pub rows-turn : (a n j w : ℕ) (row : List Line) (wide xs : List ℕ) (i : ℕ) → j < n → need row ≡ w → w ≤ length wide → length xs ≡ i + (n - j) * w → take w wide ≡ take w (drop i xs)
-    → fine a (times (n - j) row) (fill (times (n - j) row) (drop i xs)) ≡ (fine a row (fill row wide) && fine a (times (n - (j + 1)) row) (fill (times (n - (j + 1)) row) (drop (i + w) xs)))
-unfolding times
-rows-turn a n j w row wide xs i h e lw l ew =
-    let r : n - j ≡ suc (n - (j + 1)) = omega arith in
-    let rest = times (n - (j + 1)) row in
-    let l2 = rw r at l in
-    let ld = length-drop i xs in
-    let lt : length (take w (drop i xs)) ≡ w = length-take-le w (drop i xs) (omega (arith, suc-mul (n - (j + 1)) w)) in
-    let f1 : fill row wide ≡ fill row (take w (drop i xs)) = same-fill row wide (take w (drop i xs)) (omega arith) (omega arith) (rw e (ew ∙ sym (take-take w w (drop i xs) (omega arith)))) in
-    rw r
-    (ap (λ (ys : List ℕ). fine a (row ++ rest) (fill (row ++ rest) ys)) (sym (take-append-drop w (drop i xs)))
-    ∙ ap (fine a (row ++ rest)) (fill-join row rest (take w (drop i xs)) (drop w (drop i xs)) (lt ∙ sym e))
-    ∙ fine-join a row rest (fill row (take w (drop i xs))) (fill rest (drop w (drop i xs))) (length-fill row (take w (drop i xs)))
-    ∙ rw (f1, drop-drop w i xs))
-
-pub rows-done : (a n j : ℕ) (row : List Line) (xs : List ℕ) → n ≤ j → fine a (times (n - j) row) (fill (times (n - j) row) xs) ≡ true
-unfolding times fine
-rows-done a n j row xs h = let i : n - j ≡ 0 = omega arith in rw i

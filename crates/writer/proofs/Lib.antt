@@ -1,3 +1,5 @@
+pub mod ByColumn
+pub mod Beside
 pub mod Line
 pub mod Lines
 pub mod Rows

@@ -1,13 +1,13 @@
 -- What the functions under the packet writer ask of each other and give (ours, between functions).
 use mathlib.Core.Path.{_≡_}
-use mathlib.Core.Bool.{cond}
+use mathlib.Core.Bool.{true, cond}
 use mathlib.Core.List.{List, _++_}
-use Prim.Native.Nat.{ℕ, _+_, _*_, _<_, _≤_}
+use Prim.Native.Nat.{ℕ, _+_, _*_, _%_, _<_, _≤_}
 use lib.ListN.{length, replicate, take}
 use lib.Seq.{sets}
 use Rattle.laws.specs.Bits.{bits}
 use Rattle.format.specs.declared.Line.{Line}
-use Rattle.format.specs.Format.{need, size}
+use Rattle.format.specs.Format.{need, size, own, sound}
 use Rattle.packet.specs.declared.Lines.{Lines}
 use Rattle.packet.specs.declared.Content.{Content}
 use Rattle.packet.specs.Table.{rowOf, countBy}
@@ -39,6 +39,34 @@ pub record Rows (ts : Lines) (n w : ℕ) (xs : List ℕ) (p : ℕ) : Type 0 wher
   pub count : n ≤ 255
   pub numbers : length xs ≡ n * w
   pub place : p < 3000
+
+-- a line of which n rows of w numbers each have the numbers from the row's i-th on
+pub record Column (t : Line) (n w : ℕ) (xs : List ℕ) (i : ℕ) : Type 0 where
+  pub good : sound t ≡ true
+  pub inside : i + own t ≤ w
+  pub narrow : w ≤ 40
+  pub count : n ≤ 255
+  pub numbers : length xs ≡ n * w
+
+-- its numbers are half bytes that end at a byte's edge in each of n rows of s bits, all within so many bytes
+pub record Halves (t : Line) (p s n len : ℕ) : Type 0 where
+  pub own : t .given ≡ true
+  pub half : t .width ≡ 4
+  pub edge : (p + 4 * t .count) % 8 ≡ 0
+  pub whole : s % 8 ≡ 0
+  pub short : 4 * t .count ≤ s
+  pub small : (p < 4000) × (s ≤ 100)
+  pub room : p + n * s ≤ 8 * len
+
+-- it is a byte in each
+pub record Octets (t : Line) (p s n len : ℕ) : Type 0 where
+  pub own : t .given ≡ true
+  pub octet : (t .width ≡ 8) × (t .count ≡ 1)
+  pub edge : p % 8 ≡ 0
+  pub whole : s % 8 ≡ 0
+  pub some : 8 ≤ s
+  pub small : (p < 4000) × (s ≤ 100)
+  pub room : p + n * s ≤ 8 * len
 
 -- the content's numbers stand first, and its digits behind them
 pub record Fronted (c : Content) (ds r : List ℕ) : Type 0 where

@@ -8,6 +8,7 @@ ghost use Rattle.format.specs.Format.{size};
 ghost use Rattle.packet.specs.Writing.{rowFor, digitsBefore, digitsAfter};
 ghost use Rattle.writer.specs.Puts.{After, Fronted, countLent};
 ghost use Rattle.writer.specs.Parts.{frontBits, frontSize, bodyBits, bodySize, backBits, contentBits, contentSize, Lent};
+use crate::columns;
 use crate::puts;
 use packet::Content;
 use packet::Counting;
@@ -109,7 +110,7 @@ fn put_body(out: &mut [u8], p: usize, c: Content, body: &[u8]) -> usize
         let z = table::sizes_of(f);
         let each = s.each;
         let k = count_for(c, body.len());
-        puts::put_rows(out, p, each, k, z.row, body)
+        columns::put_rows(out, p, each, k, z.each, z.row, body)
     } else {
         puts::put_octets(out, p, body)
     }

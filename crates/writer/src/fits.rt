@@ -3,9 +3,9 @@ ghost use mathlib.Core.Path.{_≡_};
 ghost use mathlib.Core.Bool.{true};
 ghost use Prim.Native.Nat.{_+_, _≤_};
 ghost use lib.ListN.{length, take, drop};
-ghost use Rattle.format.specs.Format.{own, inside, lineOk, fine, fill, times, sound};
+ghost use Rattle.format.specs.Format.{own, inside, lineOk, fine, fill, sound};
 ghost use Rattle.packet.specs.InCode.{linesIn};
-ghost use Rattle.writer.specs.Puts.{valueOf, Puttable, Rows};
+ghost use Rattle.writer.specs.Puts.{valueOf, Puttable};
 use crate::puts;
 use format::Line;
 use packet::Lines;
@@ -68,24 +68,6 @@ pub(crate) fn lines_fit(a: u8, ts: Lines, xs: &[u32]) -> bool
             return false;
         }
         i += puts::taken(t);
-        j += 1;
-    }
-    true
-}
-
-// The same of rows of lines, n of them, each with w of the numbers xs.
-pub(crate) fn rows_fit(a: u8, ts: Lines, n: usize, w: usize, xs: &[u8]) -> bool
-    requires { ⌜ Rows ts n w (now xs) 0 ⌝ }
-    ensures { λ r. ⌜ r ≡ fine a (times n (linesIn ts)) (fill (times n (linesIn ts)) (now (xs .entry))) ⌝ }
-{
-    let mut i: usize = 0;
-    let mut j: usize = 0;
-    while j < n {
-        let row = puts::widened(xs, i, w);
-        if !lines_fit(a, ts, &row) {
-            return false;
-        }
-        i += w;
         j += 1;
     }
     true

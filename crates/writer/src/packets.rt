@@ -7,8 +7,8 @@ ghost use Rattle.packet.specs.Writing.{tableFor, valuesFor, sizeFor};
 ghost use Rattle.format.specs.Format.{encode};
 ghost use Rattle.writer.specs.Puts.{After};
 ghost use Rattle.writer.specs.Parts.{headBits, endingBits, Writable};
+use crate::columns;
 use crate::content;
-use crate::puts;
 use packet::Fields;
 
 // Type, length field and count of codes.
@@ -50,7 +50,7 @@ pub(crate) fn put_packet(f: Fields, codes: &[u8], body: &[u8], size: usize, out:
     let signature = f.signature;
     let row = table::code_lines();
     let p = put_head(out, f.typenumber, size, f.codes);
-    let q = puts::put_rows(out, p, row, f.codes, 23, codes);
+    let q = columns::put_rows(out, p, row, f.codes, 96, 23, codes);
     let e = content::put_content(out, q, c, digits, body);
     put_ending(out, e, f.time, certificate, signature);
 }

@@ -5,11 +5,11 @@ ghost use Prim.Native.Nat.{_+_, _*_, _<_, _≤_};
 ghost use lib.ListN.{length, getD, take, drop};
 ghost use lib.Seq.{sets};
 ghost use Rattle.laws.specs.Bits.{bits, spread};
-ghost use Rattle.format.specs.Format.{own, size, encode, fill, times, sound};
+ghost use Rattle.format.specs.Format.{own, size, encode, fill, sound};
 ghost use Rattle.packet.specs.Table.{countLine};
 ghost use Rattle.packet.specs.InCode.{linesIn};
 ghost use mathlib.Core.List.{[]};
-ghost use Rattle.writer.specs.Puts.{valueOf, After, Puttable, Rows};
+ghost use Rattle.writer.specs.Puts.{valueOf, After, Puttable};
 use format::Line;
 use packet::Counting;
 use packet::Lines;
@@ -90,7 +90,7 @@ fn put_line(out: &mut [u8], p: usize, t: Line, xs: &[u32], i: usize)
 }
 
 // The bits of a line, and how many numbers it takes of those at hand.
-fn width(t: Line) -> usize
+pub(crate) fn width(t: Line) -> usize
     requires { ⌜ sound t ≡ true ⌝ }
     ensures { λ r. ⌜ (r ≡ t .count * t .width) × (r ≤ 2048) ⌝ }
 {
@@ -136,23 +136,6 @@ pub(crate) fn widened(xs: &[u8], at: usize, n: usize) -> [u32; 40]
         j += 1;
     }
     wide
-}
-
-// Rows of the same lines from bit p on, n of them, each with w of the numbers xs; the place behind them.
-pub(crate) fn put_rows(out: &mut [u8], p: usize, ts: Lines, n: usize, w: usize, xs: &[u8]) -> usize
-    requires { ⌜ Rows ts n w (now xs) p ⌝ }
-    ensures { λ r. ⌜ After (now (out .entry)) (now (out .exit)) p (encode (times n (linesIn ts)) (fill (times n (linesIn ts)) (now (xs .entry)))) r (n * size (linesIn ts)) ⌝ }
-{
-    let mut q = p;
-    let mut i: usize = 0;
-    let mut j: usize = 0;
-    while j < n {
-        let row = widened(xs, i, w);
-        q = put_lines(out, q, ts, &row);
-        i += w;
-        j += 1;
-    }
-    q
 }
 
 // The count of a counted content.

@@ -12,6 +12,7 @@ ghost use lib.Dec.{leb, ltb, eqb};
 ghost use mathlib.Core.Logic.{_⊎_};
 ghost use Rattle.writer.specs.Parts.{Lent, Counts, bytesOf, somethingLost, frontFine, rowsFine, backFine};
 ghost use Rattle.writer.specs.Puts.{countLent};
+use crate::columns;
 use crate::content;
 use crate::fits;
 use crate::puts;
@@ -58,7 +59,7 @@ fn body_fine(answer: u8, c: Content, body: &[u8]) -> bool
         let z = table::sizes_of(f);
         let each = s.each;
         let k = content::count_for(c, body.len());
-        fits::rows_fit(answer, each, k, z.row, body)
+        columns::rows_fit(answer, each, k, z.row, body)
     } else {
         true
     }

@@ -2,8 +2,9 @@
 use Rattle.packet.proofs.Spans.{Listed, stands}
 use Rattle.writer.proofs.Contents.{entries-body, octets-body}
 use Rattle.writer.proofs.Shapes.{can-put-rows, have-put-rows}
-use Rattle.writer.proofs.Sizes.{row-is, row-few}
+use Rattle.writer.proofs.Sizes.{row-is, each-is, row-few}
 use mathlib.Core.Path.{_≡_, sym, ap, _∙_, subst}
+use Rattle.format.specs.Format.{size}
 use mathlib.Core.Bool.{false}
 use mathlib.Core.List.{List}
 use Prim.Native.Nat.{ℕ, _*_}
@@ -46,7 +47,7 @@ put-rows-requires c κs =
     let h = c .before .before .before .before .before .before .before .before .before .before .pre .0 in
     let k = c .before .count-for .ensures in
     let g = good (kindFor (x .c)) in
-    can-put-rows _ _ w _ _ _ _ (sym r) (omega (arith, row-few (x .c) _ z)) (omega (arith, g .row)) (omega (arith, h .few, k)) (rw (k, r) (h .numbers)) (c .before .before .before .before .before .before .before .before .before .before .pre .1)
+    (can-put-rows _ _ w _ _ _ _ (sym r) (omega (arith, row-few (x .c) _ z)) (omega (arith, g .row)) (omega (arith, h .few, k)) (rw (k, r) (h .numbers)) (c .before .before .before .before .before .before .before .before .before .before .pre .1), ap size (w .lines) ∙ sym (each-is (x .c) _ z))
 
 put-octets-requires : tie.Need-put-octets-requires
 put-octets-requires c κs =

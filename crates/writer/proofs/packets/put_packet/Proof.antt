@@ -1,5 +1,6 @@
 -- `writer::packets::put_packet` meets its contract. Assumes nothing.
-use mathlib.Core.Path.{subst, _≡_, ap}
+use mathlib.Core.Path.{subst, _≡_, ap, _∙_}
+use Rattle.format.specs.Format.{size}
 use Rattle.packet.proofs.Spans.{listed-code}
 use Rattle.writer.specs.Puts.{After}
 use Rattle.writer.specs.Parts.{headBits}
@@ -29,7 +30,8 @@ put-rows-requires c κs =
     let h = c .before .before .before .before .before .before .before .before .before .before .before .before .pre .0 in
     let n = codes-few (c .before .before .before .before .before .before .before .before .before .before .before .before .args .f) (c .before .before .before .before .before .before .before .before .before .before .before .before .args .body .now) (h .small) in
     let q = c .before .before .before .put-head .ensures .place in
-    can-put-rows _ _ (listed-code (c .before .before .before .before .before .code-lines .ensures)) _ _ _ _ code-need (omega arith) (omega (arith, code-size)) (omega arith) (h .counts .coded) (omega arith)
+    let l = listed-code (c .before .before .before .before .before .code-lines .ensures) in
+    (can-put-rows _ _ l _ _ _ _ code-need (omega arith) (omega (arith, code-size)) (omega arith) (h .counts .coded) (omega arith), ap size (l .lines) ∙ code-size)
 
 put-content-requires : tie.Need-put-content-requires
 put-content-requires c κs =
