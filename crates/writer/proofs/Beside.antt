@@ -72,14 +72,14 @@ pub record Laying (p s i w n q at r : ℕ) : Type 0 where
   pub within : r ≤ n
   pub place : q ≡ p + r * s
   pub used : at ≡ i + r * w
-  pub near : q ≤ p + 100 * r
+  pub near : q ≤ p + 160 * r
   pub low : at ≤ i + 40 * r
 
 pub laying-first : (p s i w n : ℕ) → Laying p s i w n p i 0
 laying-first p s i w n =
     record { within = omega arith; place = omega (arith, zero-mul s); used = omega (arith, zero-mul w); near = omega arith; low = omega arith }
 
-pub laying-turn : (p s i w n q at r : ℕ) → Laying p s i w n q at r → r < n → s ≤ 100 → w ≤ 40 → Laying p s i w n (q + s) (at + w) (r + 1)
+pub laying-turn : (p s i w n q at r : ℕ) → Laying p s i w n q at r → r < n → s ≤ 160 → w ≤ 40 → Laying p s i w n (q + s) (at + w) (r + 1)
 laying-turn p s i w n q at r g h a b =
     let x : (r + 1) * s ≡ suc r * s = rw add-one in
     let y : (r + 1) * w ≡ suc r * w = rw add-one in
@@ -194,7 +194,7 @@ going-last out₀ p ts n s w xs out q i j h e l g =
     }
 
 -- ---- a column of bytes, a row more
-pub octets-turn : (out₀ out xs : List ℕ) (p s i w n k at r x : ℕ) → Laying p s i w n (k * 8) at r → r < n → s % 8 ≡ 0 → s ≤ 100 → w ≤ 40 → at < length xs → x ≡ getD xs at 0 → x < 256
+pub octets-turn : (out₀ out xs : List ℕ) (p s i w n k at r x : ℕ) → Laying p s i w n (k * 8) at r → r < n → s % 8 ≡ 0 → s ≤ 160 → w ≤ 40 → at < length xs → x ≡ getD xs at 0 → x < 256
     → bits out ≡ strips (bits out₀) p s r (λ (m : ℕ). spread 8 (take 1 (drop (i + m * w) xs)))
     → Laying p s i w n ((k + s / 8) * 8) (at + w) (r + 1) × (bits (set out k x) ≡ strips (bits out₀) p s (r + 1) (λ (m : ℕ). spread 8 (take 1 (drop (i + m * w) xs))))
 octets-turn out₀ out xs p s i w n k at r x g l z a b h e y f =

@@ -5,7 +5,7 @@ use Prim.Native.Nat.{ℕ, suc, _+_, _<_, _≤_}
 use native.Mathlib.Numerals.{add-one}
 use native.Mathlib.Omega.{arith}
 use lib.ListN.{length, getD, set, take, drop, replicate, length-set}
-use lib.Seq.{take-take, take-suc, take-suc-set, take-all, take-at}
+use lib.Seq.{length-sets, take-take, take-suc, take-suc-set, take-all, take-at}
 use Rattle.packet.specs.declared.Content.{Content}
 use Rattle.packet.specs.declared.Laid.{Laid}
 use Rattle.packet.specs.Content.{numbersOf}
@@ -51,7 +51,11 @@ pub front-part : (r l : List ℕ) (n : ℕ) → take 6 r ≡ l → n ≤ 6 → t
 front-part r l n e h = sym (take-take n 6 r h) ∙ ap (take n) e
 
 -- six numbers are enough for any content
-six-first : (xs : List ℕ) → length xs ≤ 6 → take (length xs) (padded 6 xs) ≡ xs
+pub six-long : (xs : List ℕ) → length (padded 6 xs) ≡ 6
+unfolding zeros
+six-long xs = length-sets (replicate 6 0) 0 xs
+
+pub six-first : (xs : List ℕ) → length xs ≤ 6 → take (length xs) (padded 6 xs) ≡ xs
 unfolding zeros
 six-first xs h = ap (take (length xs)) (from-front xs (replicate 6 0) h) ∙ take-at xs (drop (length xs) (replicate 6 0)) (length xs) refl
 

@@ -1,10 +1,13 @@
 -- Loops that test numbers against ranges: of a list, of a line, of lines. Assumes nothing.
-use mathlib.Core.Path.{_≡_, refl, sym, _∙_}
-use mathlib.Core.Bool.{true, false, _&&_}
+use mathlib.Core.Path.{_≡_, refl, sym, _∙_, ap}
+use mathlib.Core.Bool.{Bool, true, false, _&&_}
 use mathlib.Core.List.{List}
-use Prim.Native.Nat.{ℕ, zero, suc, _+_, _<_, _≤_}
+use Prim.Native.Nat.{ℕ, zero, suc, _+_, _<_, _≤_, _-_}
 use native.Mathlib.Numerals.{add-one}
+use native.Mathlib.Decide.{decLt}
 use native.Mathlib.Omega.{arith}
+use Rattle.laws.proofs.Cases.{and-yes, and-no}
+use Rattle.format.proofs.Tables.{and-assoc}
 use lib.ListN.{length, getD, take, drop, replicate, length-drop, drop-of-length-le}
 use lib.Dec.{leb}
 use lib.Seq.{drop-cons, drop-drop, length-take-le, getD-take, getD-drop}
@@ -32,6 +35,27 @@ module _ (xs : List ℕ) (lo hi j : ℕ) (h : j < length xs) where
 pub inside-end : (xs : List ℕ) (lo hi j : ℕ) → length xs ≤ j → inside lo hi (drop j xs) ≡ true
 unfolding inside
 inside-end xs lo hi j h = rw (drop-of-length-le xs h)
+
+-- each is at most hi where the greatest is
+leb-greater : (a b k : ℕ) → leb (a + (b - a)) k ≡ (leb a k && leb b k)
+leb-greater a b k =
+    elim (decLt k a) [
+      | yes h ↦ lt-leb (a + (b - a)) k (omega arith) ∙ sym (and-no _ (lt-leb a k h))
+      | no h ↦
+          elim (decLt k b) [
+            | yes g ↦ lt-leb (a + (b - a)) k (omega arith) ∙ sym (and-yes _ (le-leb a k (omega arith)) ∙ lt-leb b k g)
+            | no g ↦ le-leb (a + (b - a)) k (omega arith) ∙ sym (and-yes _ (le-leb a k (omega arith)) ∙ le-leb b k (omega arith))
+          ]
+    ]
+
+pub most-turn : (xs : List ℕ) (hi j most r : ℕ) (all : Bool) → j < length xs → all ≡ (leb most hi && inside 0 hi (drop j xs)) → r ≡ most + (getD xs j 0 - most) → all ≡ (leb r hi && inside 0 hi (drop (j + 1) xs))
+unfolding inside
+most-turn xs hi j most r all h e f =
+    let x = getD xs j 0 in
+    e
+    ∙ ap (λ (b : Bool). leb most hi && b) (rw (drop-cons xs j 0 h, add-one, le-leb 0 x (omega arith)))
+    ∙ sym (and-assoc (leb most hi) (leb x hi) (inside 0 hi (drop (j + 1) xs)))
+    ∙ ap (λ (b : Bool). b && inside 0 hi (drop (j + 1) xs)) (sym (ap (λ (m : ℕ). leb m hi) f ∙ leb-greater most x hi))
 
 -- ---- n numbers from the i-th on, x being the j-th
 module _ (xs : List ℕ) (i n lo hi j x : ℕ) (h : i + n ≤ length xs) (k : j < n) (e : x ≡ getD xs (i + j) 0) where

@@ -11,6 +11,7 @@ pub mod Whole
 pub mod Together
 pub mod Inside
 pub mod Fine
+pub mod Plain
 pub mod Rules
 pub mod Digits
 pub mod Taken

@@ -24,13 +24,13 @@ module _ (ts : Lines) (ls : List Line) (h : Listed ts ls) where
       subst (λ (vs : List (List ℕ)). After out last p (encode ls vs) r (size ls)) e
       (subst (λ (l : List Line). After out last p (encode l (fill l xs)) r (size l)) (h .lines) a)
 
-  pub can-put-rows : (n w : ℕ) (xs : List ℕ) (p : ℕ) → need ls ≡ w → w ≤ 40 → size ls ≤ 100 → n ≤ 255 → length xs ≡ n * w → p < 3000 → Rows ts n w xs p
+  pub can-put-rows : (n w : ℕ) (xs : List ℕ) (p : ℕ) → need ls ≡ w → w ≤ 40 → size ls ≤ 160 → n ≤ 255 → length xs ≡ n * w → p + 160 * n < 48000 → Rows ts n w xs p
   can-put-rows n w xs p e k z c l q =
       record {
         few = h .few;
         each = ap need (h .lines) ∙ e;
         narrow = k;
-        short = subst (λ (l : List Line). size l ≤ 100) (sym (h .lines)) z;
+        short = subst (λ (l : List Line). size l ≤ 160) (sym (h .lines)) z;
         count = c;
         numbers = l;
         place = q;

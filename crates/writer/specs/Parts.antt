@@ -11,8 +11,9 @@ use Rattle.format.specs.Format.{size, need, encode, fill, fine, times}
 use Rattle.packet.specs.declared.Content.{Content}
 use Rattle.packet.specs.declared.Fields.{Fields}
 use Rattle.packet.specs.Table.{contentBytes, countLine, contentLines}
-use Rattle.packet.specs.Content.{kindFor, countFor}
+use Rattle.packet.specs.Content.{kindFor, numbersOf, countFor}
 use Rattle.packet.specs.Writing.{rowFor, frontFor, backFor, bodyFor, sizeFor, otherType, bodyLost, digitsLost}
+use Rattle.packet.specs.InCode.{ownOf}
 use Rattle.writer.specs.Puts.{countLent}
 
 -- a content: its first lines and its count; what is repeated; its last lines
@@ -84,6 +85,10 @@ bytesOf c lent = contentBytes (kindFor c) (countLent c lent)
 -- no first line is due the answer a
 abbrev pub frontFine : ℕ → Content → List ℕ → Bool
 frontFine a c ds = fine a (rowFor c .before) (fill (rowFor c .before) (frontFor c ds))
+
+-- the content's own numbers are in their ranges
+abbrev pub ownFine : Content → Bool
+ownFine c = fine 27 (ownOf (kindFor c)) (fill (ownOf (kindFor c)) (numbersOf c))
 
 -- no line of what is repeated
 abbrev pub rowsFine : ℕ → Content → List ℕ → Bool

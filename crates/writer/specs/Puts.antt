@@ -30,15 +30,15 @@ pub record Puttable (ts : Lines) (xs : List ℕ) (p : ℕ) : Type 0 where
   pub brief : length xs ≤ 1000
   pub place : p < 30000
 
--- n rows of lines, each of w numbers and at most 100 bits, from bit p on, and the numbers xs of all of them
+-- n rows of lines, each of w numbers and at most 160 bits, from bit p on, and the numbers xs of all of them
 pub record Rows (ts : Lines) (n w : ℕ) (xs : List ℕ) (p : ℕ) : Type 0 where
   pub few : Stands ts
   pub each : need (linesIn ts) ≡ w
   pub narrow : w ≤ 40
-  pub short : size (linesIn ts) ≤ 100
+  pub short : size (linesIn ts) ≤ 160
   pub count : n ≤ 255
   pub numbers : length xs ≡ n * w
-  pub place : p < 3000
+  pub place : p + 160 * n < 48000
 
 -- a line of which n rows of w numbers each have the numbers from the row's i-th on
 pub record Column (t : Line) (n w : ℕ) (xs : List ℕ) (i : ℕ) : Type 0 where
@@ -55,7 +55,7 @@ pub record Halves (t : Line) (p s n len : ℕ) : Type 0 where
   pub edge : (p + 4 * t .count) % 8 ≡ 0
   pub whole : s % 8 ≡ 0
   pub short : 4 * t .count ≤ s
-  pub small : (p < 4000) × (s ≤ 100)
+  pub small : (p + 160 * n < 49000) × (s ≤ 160)
   pub room : p + n * s ≤ 8 * len
 
 -- it is a byte in each
@@ -65,7 +65,7 @@ pub record Octets (t : Line) (p s n len : ℕ) : Type 0 where
   pub edge : p % 8 ≡ 0
   pub whole : s % 8 ≡ 0
   pub some : 8 ≤ s
-  pub small : (p < 4000) × (s ≤ 100)
+  pub small : (p + 160 * n < 49000) × (s ≤ 160)
   pub room : p + n * s ≤ 8 * len
 
 -- the content's numbers stand first, and its digits behind them

@@ -227,7 +227,7 @@ fn column_of_numbers(
     xs: &[u8],
     i: usize,
 )
-    requires { ⌜ Column t n w (now xs) i × (p < 4000) × (s ≤ 100) ⌝ }
+    requires { ⌜ Column t n w (now xs) i × (p + 160 * n < 49000) × (s ≤ 160) ⌝ }
     ensures { λ _. ⌜ bits (now (out .exit)) ≡ strips (bits (now (out .entry))) p s n (λ (k : ℕ). spread (t .width) (valueOf t (drop (i + k * w) (now (xs .entry))))) ⌝ }
 {
     let mut q = p;
@@ -243,7 +243,7 @@ fn column_of_numbers(
 
 // Half bytes that end at a byte's edge in each of n rows, all within so many bytes.
 fn are_halves(t: Line, p: usize, s: usize, n: usize, len: usize) -> bool
-    requires { ⌜ (sound t ≡ true) × (p < 4000) × (s ≤ 100) × (n ≤ 255) ⌝ }
+    requires { ⌜ (sound t ≡ true) × (p + 160 * n < 49000) × (s ≤ 160) × (n ≤ 255) ⌝ }
     ensures { λ r. ⌜ (r ≡ true → Halves t p s n len) ⌝ }
 {
     let free = t.given;
@@ -267,7 +267,7 @@ fn are_halves(t: Line, p: usize, s: usize, n: usize, len: usize) -> bool
 
 // A byte in each.
 fn are_octets(t: Line, p: usize, s: usize, n: usize, len: usize) -> bool
-    requires { ⌜ (sound t ≡ true) × (p < 4000) × (s ≤ 100) × (n ≤ 255) ⌝ }
+    requires { ⌜ (sound t ≡ true) × (p + 160 * n < 49000) × (s ≤ 160) × (n ≤ 255) ⌝ }
     ensures { λ r. ⌜ (r ≡ true → Octets t p s n len) ⌝ }
 {
     let free = t.given;
@@ -294,7 +294,7 @@ fn are_octets(t: Line, p: usize, s: usize, n: usize, len: usize) -> bool
 
 // A line in each of n rows of s bits and w numbers, in the first from bit p on.
 fn put_column(out: &mut [u8], p: usize, s: usize, t: Line, n: usize, w: usize, xs: &[u8], i: usize)
-    requires { ⌜ Column t n w (now xs) i × (p < 4000) × (s ≤ 100) ⌝ }
+    requires { ⌜ Column t n w (now xs) i × (p + 160 * n < 49000) × (s ≤ 160) ⌝ }
     ensures { λ _. ⌜ bits (now (out .exit)) ≡ strips (bits (now (out .entry))) p s n (λ (k : ℕ). spread (t .width) (valueOf t (drop (i + k * w) (now (xs .entry))))) ⌝ }
 {
     if are_halves(t, p, s, n, out.len()) {

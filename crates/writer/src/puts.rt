@@ -89,6 +89,18 @@ fn put_line(out: &mut [u8], p: usize, t: Line, xs: &[u32], i: usize)
     }
 }
 
+// m lines from a place on, of which neither bits nor numbers are asked.
+pub(crate) fn lines_at(from: usize, m: usize) -> Lines
+    ensures { λ r. ⌜ r ≡ record { from = from; m = m; bits = 0; numbers = 0 } ⌝ }
+{
+    Lines {
+        from: from,
+        m: m,
+        bits: 0,
+        numbers: 0,
+    }
+}
+
 // The bits of a line, and how many numbers it takes of those at hand.
 pub(crate) fn width(t: Line) -> usize
     requires { ⌜ sound t ≡ true ⌝ }

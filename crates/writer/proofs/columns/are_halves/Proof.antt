@@ -36,14 +36,14 @@ mul-result : tie.Need-mul-result
 mul-result c =
     let a = c .before .before .before .before .before .before .before .before .args in
     let h = c .before .before .before .before .before .before .before .before .pre in
-    let m : a .n * a .s ≤ 25500 = le-trans (mul-le-mul-left (a .n) (h .2)) (omega (arith, h .3)) in
+    let m : a .n * a .s ≤ 40800 = le-trans (mul-le-mul-left (a .n) (h .2)) (omega (arith, h .3)) in
     omega (arith, m)
 
 add-result : tie.Need-add-result
 add-result c =
     let a = c .before .before .before .before .before .before .before .before .args in
     let h = c .before .before .before .before .before .before .before .before .pre in
-    let m : a .n * a .s ≤ 25500 = le-trans (mul-le-mul-left (a .n) (h .2)) (omega (arith, h .3)) in
+    let m : a .n * a .s ≤ 40800 = le-trans (mul-le-mul-left (a .n) (h .2)) (omega (arith, h .3)) in
     omega (arith, m, h .1)
 
 returns-6 : tie.Need-returns-6

@@ -72,16 +72,16 @@ mul-result : tie.Need-mul-result Inv-loop μ-loop
 mul-result c =
     let a = c .before .before .before .before .args in
     let h = c .before .before .before .before .pre in
-    let s : a .s ≤ 100 = omega (arith, h .0 .short, h .1) in
-    let m : a .n * a .s ≤ 25500 = le-trans (mul-le-mul-left (a .n) s) (omega (arith, h .0 .count)) in
+    let s : a .s ≤ 160 = omega (arith, h .0 .short, h .1) in
+    let m : a .n * a .s ≤ 40800 = le-trans (mul-le-mul-left (a .n) s) (omega (arith, h .0 .count)) in
     omega (arith, m)
 
 add-result : tie.Need-add-result Inv-loop μ-loop
 add-result c =
     let a = c .before .before .before .before .args in
     let h = c .before .before .before .before .pre in
-    let s : a .s ≤ 100 = omega (arith, h .0 .short, h .1) in
-    let m : a .n * a .s ≤ 25500 = le-trans (mul-le-mul-left (a .n) s) (omega (arith, h .0 .count)) in
+    let s : a .s ≤ 160 = omega (arith, h .0 .short, h .1) in
+    let m : a .n * a .s ≤ 40800 = le-trans (mul-le-mul-left (a .n) s) (omega (arith, h .0 .count)) in
     omega (arith, m, h .0 .place)
 
 same-length : tie.Need-same-length Inv-loop μ-loop

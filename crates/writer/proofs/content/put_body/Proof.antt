@@ -47,7 +47,7 @@ put-rows-requires c κs =
     let h = c .before .before .before .before .before .before .before .before .before .before .pre .0 in
     let k = c .before .count-for .ensures in
     let g = good (kindFor (x .c)) in
-    (can-put-rows _ _ w _ _ _ _ (sym r) (omega (arith, row-few (x .c) _ z)) (omega (arith, g .row)) (omega (arith, h .few, k)) (rw (k, r) (h .numbers)) (c .before .before .before .before .before .before .before .before .before .before .pre .1), ap size (w .lines) ∙ sym (each-is (x .c) _ z))
+    (can-put-rows _ _ w _ _ _ _ (sym r) (omega (arith, row-few (x .c) _ z)) (omega (arith, g .row)) (omega (arith, h .few, k)) (rw (k, r) (h .numbers)) (omega (arith, h .few, k, c .before .before .before .before .before .before .before .before .before .before .pre .1)), ap size (w .lines) ∙ sym (each-is (x .c) _ z))
 
 put-octets-requires : tie.Need-put-octets-requires
 put-octets-requires c κs =
