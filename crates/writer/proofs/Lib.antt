@@ -12,6 +12,7 @@ pub mod Together
 pub mod Inside
 pub mod Fine
 pub mod Plain
+pub mod Parted
 pub mod Rules
 pub mod Digits
 pub mod Taken

@@ -1,11 +1,10 @@
 -- The loop that widens numbers, and lines that have more numbers at hand than they need. Assumes nothing.
 use mathlib.Core.Path.{_≡_, refl, sym, ap, ap₂, _∙_}
-use mathlib.Core.List.{List, [], _∷_, _++_, append-nil}
-use Prim.Native.Nat.{ℕ, _+_, _*_, _<_, _≤_}
-use native.Mathlib.Numerals.{add-one}
+use mathlib.Core.List.{List, [], _∷_, append-nil}
+use Prim.Native.Nat.{ℕ, _+_, _*_, _≤_}
 use native.Mathlib.Omega.{arith}
-use lib.ListN.{length, getD, set, take, drop, length-drop, length-set, take-append-drop, length-append}
-use lib.Seq.{take-suc, take-suc-set, getD-drop, length-take-le}
+use lib.ListN.{length, take, drop, length-drop, take-append-drop, length-append}
+use lib.Seq.{length-take-le}
 use Rattle.laws.specs.Bits.{spread}
 use Rattle.laws.proofs.Bits.{length-spread}
 use Rattle.format.specs.declared.Line.{Line}
@@ -13,25 +12,6 @@ use Rattle.format.specs.Format.{own, size, need, encode, fill}
 use Rattle.format.proofs.Tables.{fill-join}
 use Rattle.writer.specs.Puts.{valueOf}
 use Rattle.writer.proofs.Line.{length-value}
-
--- ---- numbers widened
-pub record Widening (xs : List ℕ) (at n : ℕ) (wide : List ℕ) (j : ℕ) : Type 0 where
-  pub within : j ≤ n
-  pub long : length wide ≡ 40
-  pub same : take j wide ≡ take j (drop at xs)
-
-pub widening-turn : (xs : List ℕ) (at n : ℕ) (wide : List ℕ) (j v : ℕ) → n ≤ 40 → at + n ≤ length xs → Widening xs at n wide j → j < n → v ≡ getD xs (at + j) 0 → Widening xs at n (set wide j v) (j + 1)
-widening-turn xs at n wide j v h k g l e =
-    let m = g .long in
-    record {
-      within = omega arith;
-      long = length-set wide j v ∙ m;
-      same =
-          rw add-one
-          (take-suc-set wide j v (omega arith)
-          ∙ ap₂ (λ (x : List ℕ) (y : ℕ). x ++ (y ∷ [])) (g .same) (e ∙ sym (getD-drop at xs j 0))
-          ∙ sym (take-suc (drop at xs) j 0 (omega (arith, length-drop at xs))));
-    }
 
 -- ---- lines and their numbers: only those that the lines need matter, and so many bits they are
 pub first-of : (ts : List Line) (zs : List ℕ) → need ts ≤ length zs → fill ts zs ≡ fill ts (take (need ts) zs)

@@ -3,7 +3,7 @@ use mathlib.Core.Path.{_≡_}
 use mathlib.Core.Bool.{Bool, not, _&&_, _||_}
 use mathlib.Core.List.{List, [], _++_}
 use Prim.Native.Nat.{ℕ, _+_, _-_, _*_, _≤_}
-use lib.ListN.{length}
+use lib.ListN.{length, take}
 use lib.Dec.{eqb}
 use Rattle.laws.specs.Bits.{bitsOf, spread}
 use Rattle.format.specs.declared.Line.{Line}
@@ -12,14 +12,21 @@ use Rattle.packet.specs.declared.Content.{Content}
 use Rattle.packet.specs.declared.Fields.{Fields}
 use Rattle.packet.specs.Table.{contentBytes, countLine, contentLines}
 use Rattle.packet.specs.Content.{kindFor, numbersOf, countFor}
-use Rattle.packet.specs.Writing.{rowFor, frontFor, backFor, bodyFor, sizeFor, otherType, bodyLost, digitsLost}
-use Rattle.packet.specs.InCode.{ownOf}
+use Rattle.packet.specs.Writing.{rowFor, digitsBefore, frontFor, backFor, bodyFor, sizeFor, otherType, bodyLost, digitsLost}
+use Rattle.packet.specs.InCode.{ownOf, besideOf}
 use Rattle.writer.specs.Puts.{countLent}
 
 -- a content: its first lines and its count; what is repeated; its last lines
 unfoldable pub frontBits : Content → List ℕ → ℕ → List ℕ
 frontBits c ds k =
     encode (rowFor c .before) (fill (rowFor c .before) (frontFor c ds)) ++ encode (countLine (rowFor c .counting) k) (fill (countLine (rowFor c .counting) k) [])
+
+-- of these, the content's own numbers, and the digits beside it
+unfoldable pub ownBits : Content → List ℕ
+ownBits c = encode (ownOf (kindFor c)) (fill (ownOf (kindFor c)) (numbersOf c))
+
+unfoldable pub besideBits : Content → List ℕ → List ℕ
+besideBits c ds = encode (besideOf (kindFor c)) (fill (besideOf (kindFor c)) (take (digitsBefore c) ds))
 
 -- how many bits that is
 unfoldable pub frontSize : Content → ℕ → ℕ

@@ -1,7 +1,7 @@
 -- What the functions under the packet writer ask of each other and give (ours, between functions).
 use mathlib.Core.Path.{_≡_}
 use mathlib.Core.Bool.{true, cond}
-use mathlib.Core.List.{List, _++_}
+use mathlib.Core.List.{List}
 use Prim.Native.Nat.{ℕ, _+_, _*_, _%_, _<_, _≤_}
 use lib.ListN.{length, replicate, take}
 use lib.Seq.{sets}
@@ -10,9 +10,11 @@ use Rattle.format.specs.declared.Line.{Line}
 use Rattle.format.specs.Format.{need, size, own, sound}
 use Rattle.packet.specs.declared.Lines.{Lines}
 use Rattle.packet.specs.declared.Content.{Content}
+use Rattle.packet.specs.declared.Laid.{Laid}
+use Rattle.packet.specs.declared.RowLines.{RowLines}
 use Rattle.packet.specs.Table.{rowOf, countBy}
-use Rattle.packet.specs.InCode.{linesIn, Stands}
-use Rattle.packet.specs.Content.{partsOf, kindFor, numbersOf}
+use Rattle.packet.specs.InCode.{linesIn, Stands, laidOf, rowAt}
+use Rattle.packet.specs.Content.{partsOf, kindFor}
 
 -- the numbers of a line, where xs are those at hand
 abbrev pub valueOf : Line → List ℕ → List ℕ
@@ -68,10 +70,10 @@ pub record Octets (t : Line) (p s n len : ℕ) : Type 0 where
   pub small : (p + 160 * n < 49000) × (s ≤ 160)
   pub room : p + n * s ≤ 8 * len
 
--- the content's numbers stand first, and its digits behind them
-pub record Fronted (c : Content) (ds r : List ℕ) : Type 0 where
-  pub front : take (length (numbersOf c) + 35) r ≡ numbersOf c ++ ds
-  pub long : length r ≡ 41
+-- a content laid out as numbers, and its row in code
+pub record Known (c : Content) (l : Laid) (s : RowLines) : Type 0 where
+  pub laid : l ≡ laidOf c
+  pub row : s ≡ rowAt (kindFor c)
 
 -- the count of a content, where so many bytes are lent
 abbrev pub countLent : Content → ℕ → ℕ

@@ -136,20 +136,6 @@ pub(crate) fn put_lines(out: &mut [u8], p: usize, ts: Lines, xs: &[u32]) -> usiz
     q
 }
 
-// n of the numbers xs from the at-th on, widened.
-pub(crate) fn widened(xs: &[u8], at: usize, n: usize) -> [u32; 40]
-    requires { ⌜ (n ≤ 40) × (at + n ≤ length (now xs)) ⌝ }
-    ensures { λ r. ⌜ (take n r ≡ take n (drop at (now (xs .entry)))) × (length r ≡ 40) ⌝ }
-{
-    let mut wide = [0u32; 40];
-    let mut j: usize = 0;
-    while j < n {
-        wide[j] = xs[at + j] as u32;
-        j += 1;
-    }
-    wide
-}
-
 // The count of a counted content.
 pub(crate) fn put_count(out: &mut [u8], p: usize, counting: Counting, k: usize) -> usize
     requires { ⌜ (k ≤ 255) × (p < 30000) ⌝ }
