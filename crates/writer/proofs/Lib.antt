@@ -9,6 +9,7 @@ pub mod Contents
 pub mod Shapes
 pub mod Whole
 pub mod Together
+pub mod Straight
 pub mod Inside
 pub mod Fine
 pub mod Plain

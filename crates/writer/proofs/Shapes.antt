@@ -10,6 +10,7 @@ use Rattle.packet.proofs.Spans.{Listed}
 use Rattle.laws.specs.Bits.{bits}
 use Rattle.laws.proofs.Writes.{sets-append}
 use Rattle.format.specs.declared.Line.{Line}
+use Rattle.format.proofs.Leaves.{same-long}
 use Rattle.format.specs.Format.{size, need, encode, fill, fine, times}
 use Rattle.packet.specs.declared.Lines.{Lines}
 use Rattle.writer.specs.Puts.{After, Rows}
@@ -46,3 +47,7 @@ then-put out mid last p q r v w s t e a b =
       put = b .put ∙ ap₂ (λ (l : List ℕ) (n : ℕ). sets l n w) (a .put) (sym k) ∙ sym (sets-append v w (bits out) p);
       place = omega arith;
     }
+
+-- and nothing is longer for it
+pub after-long : {out last v : List ℕ} {p r s : ℕ} → After out last p v r s → length last ≡ length out
+after-long {out} {last} {v} {p} a = same-long last out p v (a .put)

@@ -10,7 +10,7 @@ use Rattle.format.specs.declared.Line.{Line}
 use Rattle.format.specs.Format.{size, need, encode, fill, fine, times}
 use Rattle.packet.specs.declared.Content.{Content}
 use Rattle.packet.specs.declared.Fields.{Fields}
-use Rattle.packet.specs.Table.{contentBytes, countLine, contentLines}
+use Rattle.packet.specs.Table.{contentBytes, countLine, contentLines, code}
 use Rattle.packet.specs.Content.{kindFor, numbersOf, countFor}
 use Rattle.packet.specs.Writing.{rowFor, digitsBefore, frontFor, backFor, bodyFor, sizeFor, otherType, bodyLost, digitsLost}
 use Rattle.packet.specs.InCode.{ownOf, besideOf}
@@ -64,6 +64,10 @@ contentSize c body = size (linesFor c body)
 -- what stands before the codes
 unfoldable pub headBits : ℕ → ℕ → ℕ → List ℕ
 headBits kind p n = bitsOf 5 kind ++ (bitsOf 11 (p - 2) ++ bitsOf 8 n)
+
+-- a code of these digits
+unfoldable pub codeBits : List ℕ → List ℕ
+codeBits xs = encode code (fill code xs)
 
 -- time, certificate number, signature
 unfoldable pub endingBits : ℕ → List ℕ → List ℕ → List ℕ

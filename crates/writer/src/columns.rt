@@ -102,7 +102,7 @@ pub(crate) fn rows_fit(a: u8, ts: Lines, n: usize, w: usize, xs: &[u8]) -> bool
 // ---- putting
 
 // Half bytes of the numbers xs from the i-th on, two to each of m bytes from byte k on.
-fn put_pairs(out: &mut [u8], k: usize, m: usize, xs: &[u8], i: usize)
+pub(crate) fn put_pairs(out: &mut [u8], k: usize, m: usize, xs: &[u8], i: usize)
     requires { ⌜ (k + m ≤ length (now out)) × (i + 2 * m ≤ length (now xs)) ⌝ }
     ensures { λ _. ⌜ bits (now (out .exit)) ≡ sets (bits (now (out .entry))) (k * 8) (spread 4 (take (2 * m) (drop i (now (xs .entry))))) ⌝ }
 {
