@@ -1,7 +1,7 @@
 -- Loops that test numbers against ranges: of a list, of a line, of lines. Assumes nothing.
 use mathlib.Core.Path.{_≡_, refl, sym, _∙_, ap}
-use mathlib.Core.Bool.{Bool, true, false, _&&_}
-use mathlib.Core.List.{List}
+use mathlib.Core.Bool.{and-true, Bool, true, false, _&&_, cond}
+use mathlib.Core.List.{List, [], _∷_}
 use Prim.Native.Nat.{ℕ, zero, suc, _+_, _<_, _≤_, _-_}
 use native.Mathlib.Numerals.{add-one}
 use native.Mathlib.Decide.{decLt}
@@ -11,10 +11,13 @@ use Rattle.format.proofs.Tables.{and-assoc}
 use lib.ListN.{length, getD, take, drop, replicate, length-drop, drop-of-length-le}
 use lib.Dec.{leb}
 use lib.Seq.{drop-cons, drop-drop, length-take-le, getD-take, getD-drop}
-use Rattle.laws.proofs.Elements.{by-test}
+use Rattle.laws.proofs.Elements.{by-test, all-at}
 use borrow.Author.Tests.{le-leb, lt-leb}
 use Rattle.format.specs.declared.Line.{Line}
-use Rattle.format.specs.Format.{own, inside, lineOk, fine, fill}
+use Rattle.format.specs.Format.{own, inside, lineOk, fine, fill, octets}
+use Rattle.laws.specs.Scan.{all}
+use Rattle.packet.specs.Columns.{single}
+use Rattle.writer.proofs.Line.{value-one}
 use Rattle.packet.proofs.Loops.{lines-cons}
 use Rattle.writer.specs.Puts.{valueOf}
 
@@ -101,3 +104,15 @@ lines-turn a T j d t h e xs i = rw (lines-cons T j d t h e, drop-drop (own t) i 
 pub lines-done : (a : ℕ) (T : List Line) (j : ℕ) → length T ≤ j → (xs : List ℕ) → fine a (drop j T) (fill (drop j T) xs) ≡ true
 unfolding fine
 lines-done a T j k xs = rw (drop-of-length-le T {i = j} k)
+
+-- a line of one number, by that number
+pub one-fits : (a : ℕ) (T : List Line) → all single T ≡ true → (j : ℕ) (t : Line) → j < length T → t ≡ getD T j (octets 0) → (xs : List ℕ) (i x : ℕ) → i + own t ≤ length xs → x ≡ cond (t .given) (getD xs i 0) (t .lo) → lineOk a t (valueOf t (drop i xs)) ≡ lineOk a t (x ∷ [])
+one-fits a T s j t h e xs i x k f = ap (lineOk a t) (value-one t xs i (ap single e ∙ all-at single T j (octets 0) s h) k ∙ ap (λ (y : ℕ). y ∷ []) (sym f))
+
+pub one-low : (lo hi x : ℕ) → x < lo → inside lo hi (x ∷ []) ≡ false
+unfolding inside
+one-low lo hi x h = rw (lt-leb lo x h)
+
+pub one-high : (lo hi x : ℕ) → lo ≤ x → inside lo hi (x ∷ []) ≡ leb x hi
+unfolding inside
+one-high lo hi x h = rw (le-leb lo x h) (and-true (leb x hi))

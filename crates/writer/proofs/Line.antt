@@ -1,11 +1,13 @@
 -- The loop that puts a line: how it starts, goes on and ends. Assumes nothing.
 use mathlib.Core.Path.{_≡_, refl, sym, ap, _∙_}
 use mathlib.Core.Bool.{Bool, true, false, cond}
-use mathlib.Core.List.{List}
+use mathlib.Core.List.{List, [], _∷_}
 use Prim.Native.Nat.{ℕ, _+_, _*_, _<_, _≤_}
 use native.Mathlib.Omega.{arith}
-use lib.ListN.{length, getD, drop, length-drop, length-replicate, getD-replicate}
-use lib.Seq.{sets, length-take-le, getD-take, getD-drop}
+use lib.ListN.{length, getD, drop, length-drop, length-replicate, getD-replicate, take}
+use borrow.Author.Tests.{eqb-true}
+use Rattle.packet.specs.Columns.{single}
+use lib.Seq.{drop-cons, sets, length-take-le, getD-take, getD-drop}
 use Rattle.laws.specs.Bits.{bits, bitsOf, spread}
 use Rattle.laws.proofs.Cases.{if-yes}
 use Rattle.format.specs.declared.Line.{Line}
@@ -32,6 +34,19 @@ module _ (t : Line) (xs : List ℕ) (i : ℕ) (h : i + own t ≤ length xs) wher
       part : (b : Bool) → t .given ≡ b → cond (t .given) (getD xs (i + j) 0) (t .lo) ≡ getD (valueOf t (drop i xs)) j 0
       part true e = rw e (sym (getD-take (t .count) (drop i xs) j 0 k ∙ getD-drop i xs j 0))
       part false e = rw e (sym (getD-replicate (t .count) j (t .lo) 0 k))
+
+-- a line of one number has that one
+pub value-one : (t : Line) (xs : List ℕ) (i : ℕ) → single t ≡ true → i + own t ≤ length xs → valueOf t (drop i xs) ≡ cond (t .given) (getD xs i 0) (t .lo) ∷ []
+value-one t xs i s h = part (t .given) refl
+  where
+    one : t .count ≡ 1
+    one = eqb-true (t .count) 1 s
+
+    part : (b : Bool) → t .given ≡ b → valueOf t (drop i xs) ≡ cond (t .given) (getD xs i 0) (t .lo) ∷ []
+    part true e =
+        let o : own t ≡ t .count = if-yes (t .count) 0 e in
+        rw (e, one) (ap (take 1) (drop-cons xs i 0 (omega (arith, o, one, h))))
+    part false e = rw (e, one)
 
 pub record Going (out₀ : List ℕ) (p : ℕ) (t : Line) (xs : List ℕ) (i : ℕ) (out : List ℕ) (q j : ℕ) : Type 0 where
   pub within : j ≤ t .count

@@ -20,6 +20,7 @@ use Rattle.packet.specs.declared.Content.{Content}
 use Rattle.packet.specs.Table.{kinds, rowOf}
 use Rattle.packet.specs.Content.{kindFor, numbersOf}
 use Rattle.packet.specs.Reading.{padded}
+use Rattle.packet.specs.Columns.{single}
 use Rattle.packet.specs.InCode.{ownLines, linesFor, ownOf, besideOf}
 use Rattle.packet.specs.Writing.{rowFor, digitsBefore, frontFor, backFor}
 use Rattle.packet.proofs.Each.{each-kind}
@@ -129,6 +130,7 @@ module _ (c : Content) (o : ℕ) (b : Lines) (h : Parted (kindFor c) o b) where
       let l : length xs ≡ 6 = ap length e ∙ six-long (numbersOf c) in
       record {
         few = (omega (arith, h .some, h .few .0), omega (arith, h .some, h .few .1));
+        ones = ap (all single) (h .own) ∙ columned (kindFor c) .ones;
         numbers = omega (arith, l, ap need (h .own), columned (kindFor c) .numbers, good (kindFor c) .few);
         brief = omega (arith, l);
         place = omega arith;

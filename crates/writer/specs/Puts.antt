@@ -15,6 +15,8 @@ use Rattle.packet.specs.declared.RowLines.{RowLines}
 use Rattle.packet.specs.Table.{rowOf, countBy}
 use Rattle.packet.specs.InCode.{linesIn, Stands, laidOf, rowAt}
 use Rattle.packet.specs.Content.{partsOf, kindFor}
+use Rattle.packet.specs.Columns.{single}
+use Rattle.laws.specs.Scan.{all}
 
 -- the numbers of a line, where xs are those at hand
 abbrev pub valueOf : Line → List ℕ → List ℕ
@@ -25,9 +27,10 @@ pub record After (before after : List ℕ) (p : ℕ) (v : List ℕ) (r : ℕ) (s
   pub put : bits after ≡ sets (bits before) p v
   pub place : r ≡ p + s
 
--- lines that can be put from bit p on, and enough numbers xs for them
+-- lines of one number each that can be put from bit p on, and enough numbers xs for them
 pub record Puttable (ts : Lines) (xs : List ℕ) (p : ℕ) : Type 0 where
   pub few : Stands ts
+  pub ones : all single (linesIn ts) ≡ true
   pub numbers : need (linesIn ts) ≤ length xs
   pub brief : length xs ≤ 1000
   pub place : p < 30000
