@@ -1,12 +1,12 @@
 -- What the rows of the table of contents are, as far as the writer asks, and their parts put into bits. Assumes nothing.
 use mathlib.Core.Path.{_≡_, refl, sym, ap, _∙_}
 use mathlib.Core.Bool.{false, true≢false}
-use mathlib.Core.List.{List, [], _∷_, _++_, append-nil}
+use mathlib.Core.List.{List, [], _∷_, append-nil}
 use Prim.Native.Nat.{ℕ, zero, suc, _+_, _*_, _≤_}
 use native.Mathlib.Nat.{zero-mul}
 use native.Mathlib.Omega.{arith}
 use lib.ListN.{length, take, length-append}
-use lib.Seq.{length-take-le, take-take, take-all, take-append-add}
+use lib.Seq.{length-take-le, take-all}
 use Rattle.laws.specs.Bits.{bitsOf, spread}
 use Rattle.format.specs.Format.{octets, size, need, encode, fill, times}
 use Rattle.packet.specs.declared.Content.{Content}
@@ -15,9 +15,8 @@ use Rattle.packet.specs.Reading.{hasEntries}
 use Rattle.packet.proofs.Good.{good}
 use Rattle.packet.proofs.Contents.{numbers-long, Repeated, entries, octet, nothing, repeated}
 use Rattle.packet.specs.Writing.{rowFor, digitsBefore, frontFor, backFor, bodyFor}
-use Rattle.writer.specs.Puts.{After, Fronted}
+use Rattle.writer.specs.Puts.{After}
 use Rattle.writer.specs.Parts.{bodyBits, bodySize, Lent}
-use Rattle.writer.proofs.Rows.{same-fill}
 
 -- a content has numbers for its first lines, and the digits make up the rest
 pub numbers-fit : (c : Content) → (length (numbersOf c) ≤ need (rowFor c .before)) × (need (rowFor c .before) ≤ length (numbersOf c) + 35) × (length (numbersOf c) ≤ 6)
@@ -27,12 +26,6 @@ numbers-fit c =
     (omega (arith, e, g .numbered), omega (arith, e, g .digits), omega (arith, e, g .few))
 
 -- ---- the first lines
-take-front : (xs ds : List ℕ) (n m : ℕ) → n ≡ length xs + m → take n (xs ++ ds) ≡ take n (xs ++ take m ds)
-take-front xs ds n m e =
-    rw e
-    (take-append-add xs ds m
-    ∙ sym (take-append-add xs (take m ds) m ∙ ap (λ (x : List ℕ). xs ++ x) (take-take m m ds (omega arith))))
-
 module _ (c : Content) (ds : List ℕ) (d : length ds ≡ 35) where
   pub length-front : length (frontFor c ds) ≡ need (rowFor c .before)
   unfolding frontFor
@@ -43,27 +36,6 @@ module _ (c : Content) (ds : List ℕ) (d : length ds ≡ 35) where
   pub length-back : length (backFor c ds) ≡ need (rowFor c .after)
   unfolding backFor
   length-back = length-take-le (need (rowFor c .after)) ds (omega (arith, good (kindFor c) .last))
-
-  -- the array that the code has begins with them
-  pub front-fill : (r : List ℕ) → Fronted c ds r → fill (rowFor c .before) r ≡ fill (rowFor c .before) (frontFor c ds)
-  unfolding frontFor
-  front-fill r h =
-      let f = numbers-fit c in
-      let l = h .long in
-      let n = need (rowFor c .before) in
-      let lf = length-front in
-      same-fill (rowFor c .before) r (frontFor c ds) (omega (arith, f .1, f .2)) (omega arith)
-      (sym (take-take n (length (numbersOf c) + 35) r (f .1))
-      ∙ ap (take n) (h .front)
-      ∙ take-front (numbersOf c) ds n (digitsBefore c) (omega (arith, f .0)))
-
-  pub back-fill : (r : List ℕ) → take 35 r ≡ take 35 ds → length r ≡ 40 → fill (rowFor c .after) r ≡ fill (rowFor c .after) (backFor c ds)
-  unfolding backFor
-  back-fill r e l =
-      let n = need (rowFor c .after) in
-      let h : n ≤ 35 = omega (arith, good (kindFor c) .last) in
-      same-fill (rowFor c .after) r (take n ds) (omega arith) (omega (arith, length-take-le n ds (omega arith)))
-      (sym (take-take n 35 r h) ∙ ap (take n) (e ∙ take-all 35 ds (omega arith)) ∙ sym (take-take n n ds (omega arith)))
 
 -- ---- what is repeated
 -- bytes, one to a row

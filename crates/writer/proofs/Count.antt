@@ -37,11 +37,7 @@ pub octets-put : (out last xs : List ℕ) (p : ℕ) → p < 30000 → length xs 
 octets-put out last xs p h l e =
     record { put = e ∙ ap (sets (bits out) p) (if-yes (spread 8 xs) [] (reached p (length xs) 8 (omega arith) (omega arith) (omega arith))); place = refl }
 
--- a number, and numbers of one width
+-- a number
 pub field-put : (out last : List ℕ) (p w x : ℕ) → p < 50000 → w ≤ 32 → bits last ≡ sets (bits out) p (fieldBits p w x) → After out last p (bitsOf w x) (p + w) w
 field-put out last p w x h k e =
     record { put = e ∙ ap (sets (bits out) p) (if-yes (bitsOf w x) [] (reached p 1 w (omega arith) (omega arith) k)); place = refl }
-
-pub fields-put : (out last : List ℕ) (p w : ℕ) (xs : List ℕ) (q n : ℕ) → p < 50000 → w ≤ 32 → length xs ≤ 255 → q ≡ p + n → bits last ≡ sets (bits out) p (fieldsBits p w xs) → After out last p (spread w xs) q n
-fields-put out last p w xs q n h k l e f =
-    record { put = f ∙ ap (sets (bits out) p) (if-yes (spread w xs) [] (reached p (length xs) w (omega arith) (omega arith) k)); place = e }

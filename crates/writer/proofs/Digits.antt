@@ -12,8 +12,9 @@ use Rattle.packet.specs.declared.Content.{Content}
 use Rattle.packet.specs.declared.Fields.{Fields}
 use Rattle.packet.specs.Table.{code, ending}
 use Rattle.packet.specs.Writing.{tableFor, valuesFor, digitsBefore, digitsAfter, digitsLost, digitBad}
-use Rattle.writer.specs.Parts.{Counts, frontFine, rowsFine, backFine}
+use Rattle.writer.specs.Parts.{Counts, frontFine, rowsFine, backFine, ownFine}
 use Rattle.writer.proofs.Fine.{digit, range, packet-fine}
+use Rattle.writer.proofs.Plain.{only-entries, own-and-entries}
 use Rattle.writer.proofs.Rules.{codes-digits, codes-range, ending-digits, ending-range}
 
 module _ (f : Fields) (codes body : List ℕ) (h : Counts f codes body) (d : length (f .digits) ≡ 35) (lc : length (f .certificate) ≡ 12) (ls : length (f .signature) ≡ 64) where
@@ -21,17 +22,18 @@ module _ (f : Fields) (codes body : List ℕ) (h : Counts f codes body) (d : len
   contents a = frontFine a (f .content) (f .digits) && (rowsFine a (f .content) body && backFine a (f .content) (f .digits))
 
   -- what is left is codes, content and certificate
-  pub fine-25 : fine 25 (tableFor f body) (valuesFor f codes body) ≡ (inside 0 9 codes && (contents 25 && inside 0 9 (f .certificate)))
+  fine-25 : fine 25 (tableFor f body) (valuesFor f codes body) ≡ (inside 0 9 codes && (contents 25 && inside 0 9 (f .certificate)))
   fine-25 =
       packet-fine f codes body h d lc ls digit
       ∙ rw (codes-digits (f .codes) codes (h .coded), ending-digits (f .time) (f .certificate) (f .signature) lc)
 
   -- and the content alone
-  pub fine-27 : fine 27 (tableFor f body) (valuesFor f codes body) ≡ contents 27
+  pub fine-27 : fine 27 (tableFor f body) (valuesFor f codes body) ≡ (ownFine (f .content) && rowsFine 27 (f .content) body)
   fine-27 =
       packet-fine f codes body h d lc ls range
       ∙ rw (codes-range (f .codes) (fill (times (f .codes) code) codes), ending-range (fill ending (f .time ∷ (f .certificate ++ f .signature))))
       (and-true (contents 27))
+      ∙ own-and-entries (f .content) (f .digits) body
 
   -- each way out of the code
   pub no-digits : inside 0 9 (f .digits) ≡ false → false ≡ not (digitBad f codes body)
@@ -61,8 +63,8 @@ module _ (f : Fields) (codes body : List ℕ) (h : Counts f codes body) (d : len
         last true y s = s
         last false y s = refl
 
-    pub by-entries : inside 0 9 codes ≡ true → inside 0 9 (f .certificate) ≡ true → contents 25 ≡ not (digitBad f codes body)
-    by-entries q r = by-fine (contents 25) (fine-25 ∙ and-yes _ q ∙ rw r (last (contents 25)))
+    pub by-entries : inside 0 9 codes ≡ true → inside 0 9 (f .certificate) ≡ true → rowsFine 25 (f .content) body ≡ not (digitBad f codes body)
+    by-entries q r = sym (only-entries (f .content) (f .digits) body e) ∙ by-fine (contents 25) (fine-25 ∙ and-yes _ q ∙ rw r (last (contents 25)))
       where
         last : (x : Bool) → (x && true) ≡ x
         last true = refl

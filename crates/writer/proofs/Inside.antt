@@ -1,22 +1,25 @@
--- Loops that test numbers against ranges: of a list, of a line, of lines, of rows of lines. Assumes nothing.
-use mathlib.Core.Path.{_≡_, refl, sym, ap, _∙_}
-use mathlib.Core.Bool.{true, false, _&&_}
-use mathlib.Core.List.{List, _++_}
-use Prim.Native.Nat.{ℕ, zero, suc, _+_, _-_, _*_, _<_, _≤_}
-use native.Mathlib.Nat.{suc-mul}
+-- Loops that test numbers against ranges: of a list, of a line, of lines. Assumes nothing.
+use mathlib.Core.Path.{_≡_, refl, sym, _∙_, ap}
+use mathlib.Core.Bool.{and-true, Bool, true, false, _&&_, cond}
+use mathlib.Core.List.{List, [], _∷_}
+use Prim.Native.Nat.{ℕ, zero, suc, _+_, _<_, _≤_, _-_}
 use native.Mathlib.Numerals.{add-one}
+use native.Mathlib.Decide.{decLt}
 use native.Mathlib.Omega.{arith}
-use lib.ListN.{length, getD, take, drop, replicate, length-drop, drop-of-length-le, take-append-drop}
+use Rattle.laws.proofs.Cases.{and-yes, and-no}
+use Rattle.format.proofs.Tables.{and-assoc}
+use lib.ListN.{length, getD, take, drop, replicate, length-drop, drop-of-length-le}
 use lib.Dec.{leb}
-use lib.Seq.{drop-cons, drop-drop, length-take-le, take-take, getD-take, getD-drop}
-use Rattle.laws.proofs.Elements.{by-test}
+use lib.Seq.{drop-cons, drop-drop, length-take-le, getD-take, getD-drop}
+use Rattle.laws.proofs.Elements.{by-test, all-at}
 use borrow.Author.Tests.{le-leb, lt-leb}
 use Rattle.format.specs.declared.Line.{Line}
-use Rattle.format.specs.Format.{own, need, inside, lineOk, fine, fill, times}
-use Rattle.format.proofs.Tables.{fill-join, fine-join, length-fill}
+use Rattle.format.specs.Format.{own, inside, lineOk, fine, fill, octets}
+use Rattle.laws.specs.Scan.{all}
+use Rattle.packet.specs.Columns.{single}
+use Rattle.writer.proofs.Line.{value-one}
 use Rattle.packet.proofs.Loops.{lines-cons}
 use Rattle.writer.specs.Puts.{valueOf}
-use Rattle.writer.proofs.Rows.{same-fill}
 
 -- ---- numbers
 module _ (xs : List ℕ) (lo hi j : ℕ) (h : j < length xs) where
@@ -35,6 +38,27 @@ module _ (xs : List ℕ) (lo hi j : ℕ) (h : j < length xs) where
 pub inside-end : (xs : List ℕ) (lo hi j : ℕ) → length xs ≤ j → inside lo hi (drop j xs) ≡ true
 unfolding inside
 inside-end xs lo hi j h = rw (drop-of-length-le xs h)
+
+-- each is at most hi where the greatest is
+leb-greater : (a b k : ℕ) → leb (a + (b - a)) k ≡ (leb a k && leb b k)
+leb-greater a b k =
+    elim (decLt k a) [
+      | yes h ↦ lt-leb (a + (b - a)) k (omega arith) ∙ sym (and-no _ (lt-leb a k h))
+      | no h ↦
+          elim (decLt k b) [
+            | yes g ↦ lt-leb (a + (b - a)) k (omega arith) ∙ sym (and-yes _ (le-leb a k (omega arith)) ∙ lt-leb b k g)
+            | no g ↦ le-leb (a + (b - a)) k (omega arith) ∙ sym (and-yes _ (le-leb a k (omega arith)) ∙ le-leb b k (omega arith))
+          ]
+    ]
+
+pub most-turn : (xs : List ℕ) (hi j most r : ℕ) (all : Bool) → j < length xs → all ≡ (leb most hi && inside 0 hi (drop j xs)) → r ≡ most + (getD xs j 0 - most) → all ≡ (leb r hi && inside 0 hi (drop (j + 1) xs))
+unfolding inside
+most-turn xs hi j most r all h e f =
+    let x = getD xs j 0 in
+    e
+    ∙ ap (λ (b : Bool). leb most hi && b) (rw (drop-cons xs j 0 h, add-one, le-leb 0 x (omega arith)))
+    ∙ sym (and-assoc (leb most hi) (leb x hi) (inside 0 hi (drop (j + 1) xs)))
+    ∙ ap (λ (b : Bool). b && inside 0 hi (drop (j + 1) xs)) (sym (ap (λ (m : ℕ). leb m hi) f ∙ leb-greater most x hi))
 
 -- ---- n numbers from the i-th on, x being the j-th
 module _ (xs : List ℕ) (i n lo hi j x : ℕ) (h : i + n ≤ length xs) (k : j < n) (e : x ≡ getD xs (i + j) 0) where
@@ -81,23 +105,14 @@ pub lines-done : (a : ℕ) (T : List Line) (j : ℕ) → length T ≤ j → (xs 
 unfolding fine
 lines-done a T j k xs = rw (drop-of-length-le T {i = j} k)
 
--- ---- rows of lines
-pub rows-turn : (a n j w : ℕ) (row : List Line) (wide xs : List ℕ) (i : ℕ) → j < n → need row ≡ w → w ≤ length wide → length xs ≡ i + (n - j) * w → take w wide ≡ take w (drop i xs)
-    → fine a (times (n - j) row) (fill (times (n - j) row) (drop i xs)) ≡ (fine a row (fill row wide) && fine a (times (n - (j + 1)) row) (fill (times (n - (j + 1)) row) (drop (i + w) xs)))
-unfolding times
-rows-turn a n j w row wide xs i h e lw l ew =
-    let r : n - j ≡ suc (n - (j + 1)) = omega arith in
-    let rest = times (n - (j + 1)) row in
-    let l2 = rw r at l in
-    let ld = length-drop i xs in
-    let lt : length (take w (drop i xs)) ≡ w = length-take-le w (drop i xs) (omega (arith, suc-mul (n - (j + 1)) w)) in
-    let f1 : fill row wide ≡ fill row (take w (drop i xs)) = same-fill row wide (take w (drop i xs)) (omega arith) (omega arith) (rw e (ew ∙ sym (take-take w w (drop i xs) (omega arith)))) in
-    rw r
-    (ap (λ (ys : List ℕ). fine a (row ++ rest) (fill (row ++ rest) ys)) (sym (take-append-drop w (drop i xs)))
-    ∙ ap (fine a (row ++ rest)) (fill-join row rest (take w (drop i xs)) (drop w (drop i xs)) (lt ∙ sym e))
-    ∙ fine-join a row rest (fill row (take w (drop i xs))) (fill rest (drop w (drop i xs))) (length-fill row (take w (drop i xs)))
-    ∙ rw (f1, drop-drop w i xs))
+-- a line of one number, by that number
+pub one-fits : (a : ℕ) (T : List Line) → all single T ≡ true → (j : ℕ) (t : Line) → j < length T → t ≡ getD T j (octets 0) → (xs : List ℕ) (i x : ℕ) → i + own t ≤ length xs → x ≡ cond (t .given) (getD xs i 0) (t .lo) → lineOk a t (valueOf t (drop i xs)) ≡ lineOk a t (x ∷ [])
+one-fits a T s j t h e xs i x k f = ap (lineOk a t) (value-one t xs i (ap single e ∙ all-at single T j (octets 0) s h) k ∙ ap (λ (y : ℕ). y ∷ []) (sym f))
 
-pub rows-done : (a n j : ℕ) (row : List Line) (xs : List ℕ) → n ≤ j → fine a (times (n - j) row) (fill (times (n - j) row) xs) ≡ true
-unfolding times fine
-rows-done a n j row xs h = let i : n - j ≡ 0 = omega arith in rw i
+pub one-low : (lo hi x : ℕ) → x < lo → inside lo hi (x ∷ []) ≡ false
+unfolding inside
+one-low lo hi x h = rw (lt-leb lo x h)
+
+pub one-high : (lo hi x : ℕ) → lo ≤ x → inside lo hi (x ∷ []) ≡ leb x hi
+unfolding inside
+one-high lo hi x h = rw (le-leb lo x h) (and-true (leb x hi))

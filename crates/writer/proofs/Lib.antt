@@ -1,3 +1,5 @@
+pub mod ByColumn
+pub mod Beside
 pub mod Line
 pub mod Lines
 pub mod Rows
@@ -7,8 +9,11 @@ pub mod Contents
 pub mod Shapes
 pub mod Whole
 pub mod Together
+pub mod Straight
 pub mod Inside
 pub mod Fine
+pub mod Plain
+pub mod Parted
 pub mod Rules
 pub mod Digits
 pub mod Taken

@@ -10,27 +10,19 @@ use Rattle.packet.proofs.Spans.{Listed}
 use Rattle.laws.specs.Bits.{bits}
 use Rattle.laws.proofs.Writes.{sets-append}
 use Rattle.format.specs.declared.Line.{Line}
+use Rattle.format.proofs.Leaves.{same-long}
 use Rattle.format.specs.Format.{size, need, encode, fill, fine, times}
 use Rattle.packet.specs.declared.Lines.{Lines}
-use Rattle.writer.specs.Puts.{After, Puttable, Rows}
+use Rattle.writer.specs.Puts.{After, Rows}
 
 module _ (ts : Lines) (ls : List Line) (h : Listed ts ls) where
-  pub can-put : (xs : List ℕ) (p : ℕ) → need ls ≤ length xs → length xs ≤ 1000 → p < 30000 → Puttable ts xs p
-  can-put xs p n b k =
-      record { few = h .few; numbers = subst (λ (l : List Line). need l ≤ length xs) (sym (h .lines)) n; brief = b; place = k }
-
-  pub have-put : (out last xs ys : List ℕ) (p r : ℕ) → fill ls xs ≡ fill ls ys → After out last p (encode (linesIn ts) (fill (linesIn ts) xs)) r (size (linesIn ts)) → After out last p (encode ls (fill ls ys)) r (size ls)
-  have-put out last xs ys p r e a =
-      subst (λ (vs : List (List ℕ)). After out last p (encode ls vs) r (size ls)) e
-      (subst (λ (l : List Line). After out last p (encode l (fill l xs)) r (size l)) (h .lines) a)
-
-  pub can-put-rows : (n w : ℕ) (xs : List ℕ) (p : ℕ) → need ls ≡ w → w ≤ 40 → size ls ≤ 100 → n ≤ 255 → length xs ≡ n * w → p < 3000 → Rows ts n w xs p
+  pub can-put-rows : (n w : ℕ) (xs : List ℕ) (p : ℕ) → need ls ≡ w → w ≤ 40 → size ls ≤ 160 → n ≤ 255 → length xs ≡ n * w → p + 160 * n < 48000 → Rows ts n w xs p
   can-put-rows n w xs p e k z c l q =
       record {
         few = h .few;
         each = ap need (h .lines) ∙ e;
         narrow = k;
-        short = subst (λ (l : List Line). size l ≤ 100) (sym (h .lines)) z;
+        short = subst (λ (l : List Line). size l ≤ 160) (sym (h .lines)) z;
         count = c;
         numbers = l;
         place = q;
@@ -42,9 +34,6 @@ module _ (ts : Lines) (ls : List Line) (h : Listed ts ls) where
       subst (λ (l : List Line). After out last p (encode (times n l) (fill (times n l) xs)) r (n * size l)) (h .lines) a
 
   -- and tested against them
-  pub have-fit : (a : ℕ) (xs ys : List ℕ) → fill ls xs ≡ fill ls ys → fine a (linesIn ts) (fill (linesIn ts) xs) ≡ fine a ls (fill ls ys)
-  have-fit a xs ys e = rw (h .lines, e)
-
   pub have-fit-rows : (a n : ℕ) (xs : List ℕ) → fine a (times n (linesIn ts)) (fill (times n (linesIn ts)) xs) ≡ fine a (times n ls) (fill (times n ls) xs)
   have-fit-rows a n xs = rw (h .lines)
 
@@ -58,3 +47,7 @@ then-put out mid last p q r v w s t e a b =
       put = b .put ∙ ap₂ (λ (l : List ℕ) (n : ℕ). sets l n w) (a .put) (sym k) ∙ sym (sets-append v w (bits out) p);
       place = omega arith;
     }
+
+-- and nothing is longer for it
+pub after-long : {out last v : List ℕ} {p r s : ℕ} → After out last p v r s → length last ≡ length out
+after-long {out} {last} {v} {p} a = same-long last out p v (a .put)

@@ -5,7 +5,7 @@ use Prim.Native.Nat.{ℕ, _+_, _-_, _*_, _/_, _≤_}
 use native.Mathlib.Nat.{le-trans, mul-le-mul-left}
 use native.Mathlib.Omega.{arith}
 use lib.ListN.{length}
-use Rattle.format.specs.Format.{need}
+use Rattle.format.specs.Format.{size, need}
 use Rattle.packet.specs.declared.Content.{Content}
 use Rattle.packet.specs.declared.Laid.{Laid}
 use Rattle.packet.specs.declared.Sizes.{Sizes}
@@ -28,6 +28,9 @@ module _ (c : Content) (z : Sizes) (e : z ≡ sizesOf (kindFor c)) where
   pub row-is : z .row ≡ need (rowFor c .each)
   row-is = ap (λ (x : Sizes). x .row) e
 
+  pub each-is : z .each ≡ size (rowFor c .each)
+  each-is = ap (λ (x : Sizes). x .each) e
+
   last-is : z .last ≡ need (rowFor c .after)
   last-is = ap (λ (x : Sizes). x .last) e
 
@@ -44,12 +47,12 @@ module _ (c : Content) (z : Sizes) (e : z ≡ sizesOf (kindFor c)) where
   -- its bytes
   module _ (k lent : ℕ) (q : k ≡ countLent c lent) where
     pub bytes-for : (z .lead + k * z .each + z .rest) / 8 ≡ bytesOf c lent
-    bytes-for = bytes-are (kindFor c) k (z .lead) (z .each) (z .rest) (ap (λ (x : Sizes). x .lead) e) (ap (λ (x : Sizes). x .each) e) (ap (λ (x : Sizes). x .rest) e) ∙ ap (contentBytes (kindFor c)) q
+    bytes-for = bytes-are (kindFor c) k (z .lead) (z .each) (z .rest) (ap (λ (x : Sizes). x .lead) e) each-is (ap (λ (x : Sizes). x .rest) e) ∙ ap (contentBytes (kindFor c)) q
 
     pub bits-most : countLent c lent ≤ 2000 → (k * z .each ≤ 80000) × (z .lead ≤ 160) × (z .rest ≤ 96)
     bits-most h =
         let g = good (kindFor c) in
-        let a : z .each ≤ 40 = omega (arith, ap (λ (x : Sizes). x .each) e, g .row) in
+        let a : z .each ≤ 40 = omega (arith, each-is, g .row) in
         (le-trans (mul-le-mul-left k a) (omega arith), omega (arith, ap (λ (x : Sizes). x .lead) e, g .lead), omega (arith, ap (λ (x : Sizes). x .rest) e, g .rest))
 
     -- its count against what is lent

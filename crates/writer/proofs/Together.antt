@@ -3,7 +3,7 @@ use mathlib.Core.Path.{_≡_, refl, sym, ap, _∙_, ap₂}
 use mathlib.Core.List.{List, _∷_, _++_, append-assoc, append-nil}
 use Prim.Native.Nat.{ℕ, _-_, _*_, _≤_, _+_}
 use native.Mathlib.Omega.{arith}
-use lib.ListN.{length, replicate, length-append}
+use lib.ListN.{length, length-append}
 use lib.Seq.{sets, take-at, drop-at, take-all}
 use Rattle.laws.specs.Bits.{bits, bitsOf, spread}
 use Rattle.laws.proofs.Bits.{length-bitsOf, length-spread}
@@ -13,15 +13,14 @@ use Rattle.format.proofs.Tables.{size-times, need-append, need-times}
 use Rattle.packet.specs.declared.Content.{Content}
 use Rattle.packet.specs.declared.Fields.{Fields}
 use Rattle.packet.specs.Table.{code, ending, packet, contentLines, countLine}
-use Rattle.packet.specs.Content.{kindFor, countFor}
+use Rattle.packet.specs.Content.{countFor}
 use Rattle.packet.specs.Writing.{rowFor, frontFor, backFor, bodyFor, sizeFor, tableFor, numbersFor, valuesFor}
 use Rattle.writer.specs.Puts.{After}
-use Rattle.writer.specs.Parts.{linesFor, contentBits, contentSize, headBits, endingBits, Lent, Counts}
+use Rattle.writer.specs.Parts.{linesFor, contentBits, contentSize, headBits, endingBits, Counts}
 use Rattle.writer.proofs.Rows.{encode-size}
-use Rattle.packet.proofs.Good.{good}
 use Rattle.writer.proofs.Contents.{length-front, length-back}
 use Rattle.writer.proofs.Shapes.{then-put}
-use Rattle.writer.proofs.Whole.{two, count-needs, content-sizes, front-small, body-small, bodied}
+use Rattle.writer.proofs.Whole.{two, count-needs}
 
 -- ---- a code's row
 pub code-need : need code ≡ 23
@@ -40,10 +39,6 @@ codes-few f body h = omega arith
 pub size-least : (f : Fields) (body : List ℕ) → 77 ≤ sizeFor f body
 unfolding sizeFor
 size-least f body = omega arith
-
-pub content-small : (c : Content) (body : List ℕ) → Lent c body → contentSize c body ≤ 10456
-content-small c body h =
-    omega (arith, content-sizes c (replicate 35 0) body refl (bodied c body h), front-small c (countFor c body), body-small c body h, good (kindFor c) .rest)
 
 -- ---- the head
 head-long : (kind p n : ℕ) → length (headBits kind p n) ≡ 24

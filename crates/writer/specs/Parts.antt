@@ -3,22 +3,30 @@ use mathlib.Core.Path.{_≡_}
 use mathlib.Core.Bool.{Bool, not, _&&_, _||_}
 use mathlib.Core.List.{List, [], _++_}
 use Prim.Native.Nat.{ℕ, _+_, _-_, _*_, _≤_}
-use lib.ListN.{length}
+use lib.ListN.{length, take}
 use lib.Dec.{eqb}
 use Rattle.laws.specs.Bits.{bitsOf, spread}
 use Rattle.format.specs.declared.Line.{Line}
 use Rattle.format.specs.Format.{size, need, encode, fill, fine, times}
 use Rattle.packet.specs.declared.Content.{Content}
 use Rattle.packet.specs.declared.Fields.{Fields}
-use Rattle.packet.specs.Table.{contentBytes, countLine, contentLines}
-use Rattle.packet.specs.Content.{kindFor, countFor}
-use Rattle.packet.specs.Writing.{rowFor, frontFor, backFor, bodyFor, sizeFor, otherType, bodyLost, digitsLost}
+use Rattle.packet.specs.Table.{contentBytes, countLine, contentLines, code}
+use Rattle.packet.specs.Content.{kindFor, numbersOf, countFor}
+use Rattle.packet.specs.Writing.{rowFor, digitsBefore, frontFor, backFor, bodyFor, sizeFor, otherType, bodyLost, digitsLost}
+use Rattle.packet.specs.InCode.{ownOf, besideOf}
 use Rattle.writer.specs.Puts.{countLent}
 
 -- a content: its first lines and its count; what is repeated; its last lines
 unfoldable pub frontBits : Content → List ℕ → ℕ → List ℕ
 frontBits c ds k =
     encode (rowFor c .before) (fill (rowFor c .before) (frontFor c ds)) ++ encode (countLine (rowFor c .counting) k) (fill (countLine (rowFor c .counting) k) [])
+
+-- of these, the content's own numbers, and the digits beside it
+unfoldable pub ownBits : Content → List ℕ
+ownBits c = encode (ownOf (kindFor c)) (fill (ownOf (kindFor c)) (numbersOf c))
+
+unfoldable pub besideBits : Content → List ℕ → List ℕ
+besideBits c ds = encode (besideOf (kindFor c)) (fill (besideOf (kindFor c)) (take (digitsBefore c) ds))
 
 -- how many bits that is
 unfoldable pub frontSize : Content → ℕ → ℕ
@@ -57,6 +65,10 @@ contentSize c body = size (linesFor c body)
 unfoldable pub headBits : ℕ → ℕ → ℕ → List ℕ
 headBits kind p n = bitsOf 5 kind ++ (bitsOf 11 (p - 2) ++ bitsOf 8 n)
 
+-- a code of these digits
+unfoldable pub codeBits : List ℕ → List ℕ
+codeBits xs = encode code (fill code xs)
+
 -- time, certificate number, signature
 unfoldable pub endingBits : ℕ → List ℕ → List ℕ → List ℕ
 endingBits time certificate signature = bitsOf 32 time ++ (spread 4 certificate ++ spread 8 signature)
@@ -84,6 +96,10 @@ bytesOf c lent = contentBytes (kindFor c) (countLent c lent)
 -- no first line is due the answer a
 abbrev pub frontFine : ℕ → Content → List ℕ → Bool
 frontFine a c ds = fine a (rowFor c .before) (fill (rowFor c .before) (frontFor c ds))
+
+-- the content's own numbers are in their ranges
+abbrev pub ownFine : Content → Bool
+ownFine c = fine 27 (ownOf (kindFor c)) (fill (ownOf (kindFor c)) (numbersOf c))
 
 -- no line of what is repeated
 abbrev pub rowsFine : ℕ → Content → List ℕ → Bool

@@ -1,56 +1,25 @@
 // The lines of a table against numbers: whether any is due an answer.
 ghost use mathlib.Core.Path.{_≡_};
-ghost use mathlib.Core.Bool.{true};
-ghost use Prim.Native.Nat.{_+_, _≤_};
-ghost use lib.ListN.{length, take, drop};
-ghost use Rattle.format.specs.Format.{own, inside, lineOk, fine, fill, times, sound};
+ghost use mathlib.Core.List.{[], _∷_};
+ghost use Rattle.format.specs.Format.{lineOk, fine, fill};
 ghost use Rattle.packet.specs.InCode.{linesIn};
-ghost use Rattle.writer.specs.Puts.{valueOf, Puttable, Rows};
+ghost use Rattle.writer.specs.Puts.{Puttable};
 use crate::puts;
 use format::Line;
 use packet::Lines;
 
-// n of the numbers xs from the i-th on are lo to hi.
-fn all_between(xs: &[u32], i: usize, n: usize, lo: u32, hi: u32) -> bool
-    requires { ⌜ i + n ≤ length (now xs) ⌝ }
-    ensures { λ r. ⌜ r ≡ inside lo hi (take n (drop i (now (xs .entry)))) ⌝ }
-{
-    let mut j: usize = 0;
-    while j < n {
-        let x = xs[i + j];
-        if x < lo {
-            return false;
-        }
-        if x > hi {
-            return false;
-        }
-        j += 1;
-    }
-    true
-}
-
-// The numbers of a line are in its range; where it has none of its own they are its lowest.
-fn in_range(t: Line, xs: &[u32], i: usize) -> bool
-    requires { ⌜ (sound t ≡ true) × (i + own t ≤ length (now xs)) × (length (now xs) ≤ 1000) ⌝ }
-    ensures { λ r. ⌜ r ≡ inside (t .lo) (t .hi) (valueOf t (drop i (now (xs .entry)))) ⌝ }
-{
-    let free = t.given;
-    if free {
-        return all_between(xs, i, t.count, t.lo, t.hi);
-    }
-    if t.count == 0 {
-        return true;
-    }
-    t.lo <= t.hi
-}
-
-// A line is no concern of the answer a, or its numbers are as it says.
-fn line_fits(a: u8, t: Line, xs: &[u32], i: usize) -> bool
-    requires { ⌜ (sound t ≡ true) × (i + own t ≤ length (now xs)) × (length (now xs) ≤ 1000) ⌝ }
-    ensures { λ r. ⌜ r ≡ lineOk a t (valueOf t (drop i (now (xs .entry)))) ⌝ }
+// A line of one number is no concern of the answer a, or the number x is in its range.
+fn line_fits(a: u8, t: Line, x: u32) -> bool
+    ensures { λ r. ⌜ r ≡ lineOk a t (x ∷ []) ⌝ }
 {
     let o = t.answer;
-    if o == a { in_range(t, xs, i) } else { true }
+    if o != a {
+        return true;
+    }
+    if x < t.lo {
+        return false;
+    }
+    x <= t.hi
 }
 
 // No line with the numbers xs is due the answer a.
@@ -64,28 +33,11 @@ pub(crate) fn lines_fit(a: u8, ts: Lines, xs: &[u32]) -> bool
     let mut j: usize = 0;
     while j < m {
         let t = table::line_at(from + j);
-        if !line_fits(a, t, xs, i) {
+        let x = puts::number_of(t, xs, i);
+        if !line_fits(a, t, x) {
             return false;
         }
         i += puts::taken(t);
-        j += 1;
-    }
-    true
-}
-
-// The same of rows of lines, n of them, each with w of the numbers xs.
-pub(crate) fn rows_fit(a: u8, ts: Lines, n: usize, w: usize, xs: &[u8]) -> bool
-    requires { ⌜ Rows ts n w (now xs) 0 ⌝ }
-    ensures { λ r. ⌜ r ≡ fine a (times n (linesIn ts)) (fill (times n (linesIn ts)) (now (xs .entry))) ⌝ }
-{
-    let mut i: usize = 0;
-    let mut j: usize = 0;
-    while j < n {
-        let row = puts::widened(xs, i, w);
-        if !lines_fit(a, ts, &row) {
-            return false;
-        }
-        i += w;
         j += 1;
     }
     true

@@ -1,4 +1,5 @@
 // The packet writer: fields, codes and body as the bytes of a packet.
+mod columns;
 mod content;
 mod fits;
 mod packets;

@@ -2,14 +2,14 @@
 ghost use mathlib.Core.Path.{_≡_};
 ghost use mathlib.Core.Bool.{true, cond};
 ghost use Prim.Native.Nat.{_+_, _*_, _<_, _≤_};
-ghost use lib.ListN.{length, getD, take, drop};
+ghost use lib.ListN.{length, getD, drop};
 ghost use lib.Seq.{sets};
 ghost use Rattle.laws.specs.Bits.{bits, spread};
-ghost use Rattle.format.specs.Format.{own, size, encode, fill, times, sound};
+ghost use Rattle.format.specs.Format.{own, size, encode, fill, sound};
 ghost use Rattle.packet.specs.Table.{countLine};
 ghost use Rattle.packet.specs.InCode.{linesIn};
 ghost use mathlib.Core.List.{[]};
-ghost use Rattle.writer.specs.Puts.{valueOf, After, Puttable, Rows};
+ghost use Rattle.writer.specs.Puts.{valueOf, After, Puttable};
 use format::Line;
 use packet::Counting;
 use packet::Lines;
@@ -26,41 +26,7 @@ pub(crate) fn number_of(t: Line, xs: &[u32], i: usize) -> u32
     }
 }
 
-// A line with numbers of its own, each half a byte.
-fn are_digits(t: Line) -> bool
-    ensures { λ r. ⌜ (r ≡ true → (t .given ≡ true) × (t .width ≡ 4)) ⌝ }
-{
-    let free = t.given;
-    if !free {
-        return false;
-    }
-    t.width == 4
-}
-
-// The lowest half bytes of n of the numbers xs from the at-th on.
-fn halves(xs: &[u32], at: usize, n: usize) -> [u8; 64]
-    requires { ⌜ (n ≤ 64) × (at + n ≤ length (now xs)) ⌝ }
-    ensures { λ r. ⌜ (spread 4 (take n r) ≡ spread 4 (take n (drop at (now (xs .entry))))) × (length r ≡ 64) ⌝ }
-{
-    let mut few = [0u8; 64];
-    let mut j: usize = 0;
-    while j < n {
-        few[j] = (xs[at + j] % 16) as u8;
-        j += 1;
-    }
-    few
-}
-
-// n half bytes from bit p on, the numbers of xs from i on: all at once, by way of bytes.
-fn put_halves(out: &mut [u8], p: usize, n: usize, xs: &[u32], i: usize)
-    requires { ⌜ (n ≤ 64) × (p < 50000) × (i + n ≤ length (now xs)) ⌝ }
-    ensures { λ _. ⌜ bits (now (out .exit)) ≡ sets (bits (now (out .entry))) p (spread 4 (take n (drop i (now (xs .entry))))) ⌝ }
-{
-    let few = halves(xs, i, n);
-    format::put_fields(out, p, 4, &few[0..n]);
-}
-
-// A line from bit p on, with the numbers of xs from i on, number by number.
+// A line from bit p on, with the numbers of xs from i on.
 fn put_each(out: &mut [u8], p: usize, t: Line, xs: &[u32], i: usize)
     requires { ⌜ (sound t ≡ true) × (p < 50000) × (i + own t ≤ length (now xs)) × (length (now xs) ≤ 1000) ⌝ }
     ensures { λ _. ⌜ bits (now (out .exit)) ≡ sets (bits (now (out .entry))) p (spread (t .width) (valueOf t (drop i (now (xs .entry))))) ⌝ }
@@ -77,20 +43,20 @@ fn put_each(out: &mut [u8], p: usize, t: Line, xs: &[u32], i: usize)
     }
 }
 
-// The same; a line of digits at once.
-fn put_line(out: &mut [u8], p: usize, t: Line, xs: &[u32], i: usize)
-    requires { ⌜ (sound t ≡ true) × (p < 50000) × (i + own t ≤ length (now xs)) × (length (now xs) ≤ 1000) ⌝ }
-    ensures { λ _. ⌜ bits (now (out .exit)) ≡ sets (bits (now (out .entry))) p (spread (t .width) (valueOf t (drop i (now (xs .entry))))) ⌝ }
+// m lines from a place on, of which neither bits nor numbers are asked.
+pub(crate) fn lines_at(from: usize, m: usize) -> Lines
+    ensures { λ r. ⌜ r ≡ record { from = from; m = m; bits = 0; numbers = 0 } ⌝ }
 {
-    if are_digits(t) {
-        put_halves(out, p, t.count, xs, i);
-    } else {
-        put_each(out, p, t, xs, i);
+    Lines {
+        from: from,
+        m: m,
+        bits: 0,
+        numbers: 0,
     }
 }
 
 // The bits of a line, and how many numbers it takes of those at hand.
-fn width(t: Line) -> usize
+pub(crate) fn width(t: Line) -> usize
     requires { ⌜ sound t ≡ true ⌝ }
     ensures { λ r. ⌜ (r ≡ t .count * t .width) × (r ≤ 2048) ⌝ }
 {
@@ -116,40 +82,9 @@ pub(crate) fn put_lines(out: &mut [u8], p: usize, ts: Lines, xs: &[u32]) -> usiz
     let mut j: usize = 0;
     while j < m {
         let t = table::line_at(from + j);
-        put_line(out, q, t, xs, i);
+        put_each(out, q, t, xs, i);
         q += width(t);
         i += taken(t);
-        j += 1;
-    }
-    q
-}
-
-// n of the numbers xs from the at-th on, widened.
-pub(crate) fn widened(xs: &[u8], at: usize, n: usize) -> [u32; 40]
-    requires { ⌜ (n ≤ 40) × (at + n ≤ length (now xs)) ⌝ }
-    ensures { λ r. ⌜ (take n r ≡ take n (drop at (now (xs .entry)))) × (length r ≡ 40) ⌝ }
-{
-    let mut wide = [0u32; 40];
-    let mut j: usize = 0;
-    while j < n {
-        wide[j] = xs[at + j] as u32;
-        j += 1;
-    }
-    wide
-}
-
-// Rows of the same lines from bit p on, n of them, each with w of the numbers xs; the place behind them.
-pub(crate) fn put_rows(out: &mut [u8], p: usize, ts: Lines, n: usize, w: usize, xs: &[u8]) -> usize
-    requires { ⌜ Rows ts n w (now xs) p ⌝ }
-    ensures { λ r. ⌜ After (now (out .entry)) (now (out .exit)) p (encode (times n (linesIn ts)) (fill (times n (linesIn ts)) (now (xs .entry)))) r (n * size (linesIn ts)) ⌝ }
-{
-    let mut q = p;
-    let mut i: usize = 0;
-    let mut j: usize = 0;
-    while j < n {
-        let row = widened(xs, i, w);
-        q = put_lines(out, q, ts, &row);
-        i += w;
         j += 1;
     }
     q

@@ -1,7 +1,7 @@
 // What is wrong with fields: the answers 23, 26, 25, 27, 20 and 10, in that order.
 ghost use mathlib.Core.Path.{_≡_};
 ghost use mathlib.Core.Bool.{not, _&&_, true, false};
-ghost use Prim.Native.Nat.{_+_, _*_, _<_, _≤_};
+ghost use Prim.Native.Nat.{_+_, _-_, _*_, _≤_};
 ghost use lib.ListN.{drop};
 ghost use Rattle.laws.specs.Refusals.{first};
 ghost use Rattle.format.specs.Format.{inside, need};
@@ -10,8 +10,9 @@ ghost use Rattle.packet.specs.Reading.{hasEntries};
 ghost use Rattle.packet.specs.Writing.{rowFor, lentBad, bodyLost, digitsLost, countBad, digitBad, notTaken, writeCases, writtenAnswer};
 ghost use lib.Dec.{leb, ltb, eqb};
 ghost use mathlib.Core.Logic.{_⊎_};
-ghost use Rattle.writer.specs.Parts.{Lent, Counts, bytesOf, somethingLost, frontFine, rowsFine, backFine};
+ghost use Rattle.writer.specs.Parts.{Lent, Counts, bytesOf, somethingLost, ownFine, rowsFine};
 ghost use Rattle.writer.specs.Puts.{countLent};
+use crate::columns;
 use crate::content;
 use crate::fits;
 use crate::puts;
@@ -19,32 +20,38 @@ use packet::Content;
 use packet::Counting;
 use packet::Fields;
 
-// Each is lo to hi.
-fn all_inside(xs: &[u8], lo: u8, hi: u8) -> bool
-    ensures { λ r. ⌜ r ≡ inside lo hi (now (xs .entry)) ⌝ }
+// The greater of two.
+fn greater(a: u8, b: u8) -> u8
+    ensures { λ r. ⌜ r ≡ a + (b - a) ⌝ }
 {
-    let mut j: usize = 0;
-    while j < xs.len() {
-        let x = xs[j];
-        if x < lo {
-            return false;
-        }
-        if x > hi {
-            return false;
-        }
-        j += 1;
-    }
-    true
+    if a < b { b } else { a }
 }
 
-// The first lines, for an answer.
-fn front_fine(answer: u8, c: Content, digits: [u8; 35]) -> bool
-    ensures { λ r. ⌜ r ≡ frontFine answer c digits ⌝ }
+// Each is at most hi: the greatest is.
+fn all_most(xs: &[u8], hi: u8) -> bool
+    ensures { λ r. ⌜ r ≡ inside 0 hi (now (xs .entry)) ⌝ }
 {
-    let s = table::row_of(content::kind_for(c));
+    let n = xs.len();
+    let mut most: u8 = 0;
+    let mut j: usize = 0;
+    while j < n {
+        most = greater(most, xs[j]);
+        j += 1;
+    }
+    most <= hi
+}
+
+// The content's own numbers are in their ranges.
+fn own_fine(c: Content) -> bool
+    ensures { λ r. ⌜ r ≡ ownFine c ⌝ }
+{
+    let l = packet::lay(c);
+    let kind = l.kind;
+    let s = table::row_of(kind);
     let before = s.before;
-    let front = content::front_of(c, digits);
-    fits::lines_fit(answer, before, &front)
+    let numbers = l.numbers;
+    let own = puts::lines_at(before.from, s.own);
+    fits::lines_fit(27, own, &numbers)
 }
 
 // What is repeated: entries are tested, bytes are not.
@@ -58,34 +65,10 @@ fn body_fine(answer: u8, c: Content, body: &[u8]) -> bool
         let z = table::sizes_of(f);
         let each = s.each;
         let k = content::count_for(c, body.len());
-        fits::rows_fit(answer, each, k, z.row, body)
+        columns::rows_fit(answer, each, k, z.row, body)
     } else {
         true
     }
-}
-
-// The last lines.
-fn back_fine(answer: u8, c: Content, digits: [u8; 35]) -> bool
-    ensures { λ r. ⌜ r ≡ backFine answer c digits ⌝ }
-{
-    let s = table::row_of(content::kind_for(c));
-    let after = s.after;
-    let back = puts::widened(&digits, 0, 35);
-    fits::lines_fit(answer, after, &back)
-}
-
-// No line of a content is due the answer.
-fn content_fine(answer: u8, c: Content, digits: [u8; 35], body: &[u8]) -> bool
-    requires { ⌜ ((answer ≡ 25) ⊎ (answer ≡ 27)) × (hasEntries (kindFor c) ≡ true → Lent c (now body)) ⌝ }
-    ensures { λ r. ⌜ r ≡ (frontFine answer c digits && (rowsFine answer c (now (body .entry)) && backFine answer c digits)) ⌝ }
-{
-    if !front_fine(answer, c, digits) {
-        return false;
-    }
-    if !body_fine(answer, c, body) {
-        return false;
-    }
-    back_fine(answer, c, digits)
 }
 
 // No digit is above 9, in codes, certificate, entries or beside the content.
@@ -96,16 +79,16 @@ fn digits_fine(f: Fields, codes: &[u8], body: &[u8]) -> bool
     let c = f.content;
     let digits = f.digits;
     let certificate = f.certificate;
-    if !all_inside(&digits, 0, 9) {
+    if !all_most(&digits, 9) {
         return false;
     }
-    if !all_inside(codes, 0, 9) {
+    if !all_most(codes, 9) {
         return false;
     }
-    if !all_inside(&certificate, 0, 9) {
+    if !all_most(&certificate, 9) {
         return false;
     }
-    content_fine(25, c, digits, body)
+    body_fine(25, c, body)
 }
 
 // The other digits are 0: what is not used could not be handed back.
@@ -113,7 +96,7 @@ fn digits_kept(c: Content, digits: [u8; 35]) -> bool
     ensures { λ r. ⌜ r ≡ not (digitsLost c digits) ⌝ }
 {
     let used = content::digits_used(c);
-    all_inside(&digits[used..35], 0, 0)
+    all_most(&digits[used..35], 0)
 }
 
 // A body for a content that has none.
@@ -210,11 +193,14 @@ fn nothing_lost(f: Fields, body: &[u8]) -> bool
 }
 
 // Every number is in its range, and the day is one that its month has.
-fn numbers_fine(c: Content, digits: [u8; 35], body: &[u8]) -> bool
+fn numbers_fine(c: Content, body: &[u8]) -> bool
     requires { ⌜ (hasEntries (kindFor c) ≡ true → Lent c (now body)) ⌝ }
-    ensures { λ r. ⌜ r ≡ ((frontFine 27 c digits && (rowsFine 27 c (now (body .entry)) && backFine 27 c digits)) && not (noSuchDay c)) ⌝ }
+    ensures { λ r. ⌜ r ≡ ((ownFine c && rowsFine 27 c (now (body .entry))) && not (noSuchDay c)) ⌝ }
 {
-    if !content_fine(27, c, digits, body) {
+    if !own_fine(c) {
+        return false;
+    }
+    if !body_fine(27, c, body) {
         return false;
     }
     !packet::no_such_day(c)
@@ -226,11 +212,10 @@ fn content_taken(f: Fields, codes: &[u8], body: &[u8]) -> bool
     ensures { λ r. ⌜ r ≡ not (notTaken f (now (codes .entry)) (now (body .entry))) ⌝ }
 {
     let c = f.content;
-    let digits = f.digits;
     if !nothing_lost(f, body) {
         return false;
     }
-    numbers_fine(c, digits, body)
+    numbers_fine(c, body)
 }
 
 // The size of the packet.

@@ -25,7 +25,7 @@ put-packet-requires : tie.Need-put-packet-requires
 put-packet-requires c κs =
     let x = c .before .before .before .before .before .before .before .args in
     let g = passed (x .fields) (x .codes .now) (x .body .now) (length (x .out .now)) (sym (c .before .before .before .answer .ensures) ∙ c .before .before .if1 .left) in
-    (writable (x .fields) (x .codes .now) (x .body .now) (length (x .out .now)) g, c .before .size-of .ensures ∙ sym (size-is (x .fields) (x .body .now)))
+    (writable (x .fields) (x .codes .now) (x .body .now) (length (x .out .now)) g, c .before .size-of .ensures ∙ sym (size-is (x .fields) (x .body .now)), omega (arith, c .before .size-of .ensures, size-is (x .fields) (x .body .now), g .room-enough))
 
 same-length : tie.Need-same-length
 same-length c = search needs

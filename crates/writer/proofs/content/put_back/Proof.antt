@@ -1,62 +1,45 @@
 -- `writer::content::put_back` meets its contract. Assumes nothing.
-use mathlib.Core.Path.{_≡_, subst}
+use mathlib.Core.Path.{_≡_, sym, ap, _∙_}
+use Prim.Native.Nat.{_≤_}
 use native.Mathlib.Omega.{arith}
 use lib.ListN.{length}
-use Rattle.packet.proofs.Spans.{Listed, stands}
-use Rattle.packet.specs.declared.Kind.{Kind}
-use Rattle.packet.specs.Table.{rowOf}
+use Rattle.format.specs.Format.{size}
 use Rattle.packet.specs.Content.{kindFor}
-use Rattle.packet.specs.Writing.{rowFor}
-use Rattle.writer.specs.Parts.{backBits}
 use Rattle.packet.proofs.Good.{good}
-use Rattle.writer.proofs.Contents.{back-fill}
-use Rattle.writer.proofs.Shapes.{can-put, have-put}
+use Rattle.packet.proofs.Spans.{stands}
+use Rattle.writer.proofs.Parted.{told, back-rows, back-put}
 use borrow.Author.Needs.{needs}
 use Rattle.writer.proofs.content.put_back.Statement.{statement}
 use Rattle.writer.proofs.content.put_back.Tie as tie
 
-kind-for-requires : tie.Need-kind-for-requires
-kind-for-requires c κs = search needs
+sub-put-rows : tie.Need-sub-put-rows
+sub-put-rows c = search needs
 
-row-of-requires : tie.Need-row-of-requires
-row-of-requires c κs = search needs
+part-put-rows-start : tie.Need-part-put-rows-start
+part-put-rows-start c = search needs
 
-slice-aggregate-widened : tie.Need-slice-aggregate-widened
-slice-aggregate-widened c = search needs
+part-put-rows-end : tie.Need-part-put-rows-end
+part-put-rows-end c =
+    let a = c .before .before .before .before .args in
+    let n : a .s .after .numbers ≤ 35 = omega (arith, told (kindFor (a .c)) (c .before .before .before .before .pre .0) .last-numbers, good (kindFor (a .c)) .last) in
+    search (needs, n)
 
-widened-requires : tie.Need-widened-requires
-widened-requires c κs = search needs
-
-slice-aggregate-put-lines : tie.Need-slice-aggregate-put-lines
-slice-aggregate-put-lines c = search needs
-
-put-lines-requires : tie.Need-put-lines-requires
-put-lines-requires c κs =
-    let w : Listed (c .before .before .before .before .before .row-of .result .after) (rowFor (c .before .before .before .before .before .before .before .before .args .c) .after) = subst (λ (f : Kind). Listed (c .before .before .before .before .before .row-of .result .after) (rowOf f .after)) (c .before .before .before .before .before .before .kind-for .ensures) (stands _ (c .before .before .before .before .before .row-of .ensures) .last) in
-    let z = good (kindFor (c .before .before .before .before .before .before .before .before .args .c)) in
-    let n = z .last in
-    let l = c .before .before .widened .ensures .1 in
-    can-put _ _ w _ _ (omega arith) (omega arith) (omega (arith, c .before .before .before .before .before .before .before .before .pre))
+put-rows-requires : tie.Need-put-rows-requires
+put-rows-requires c κs =
+    let a = c .before .before .before .before .before .args in
+    let h = c .before .before .before .before .before .pre in
+    let d : length (a .t5) ≡ 35 = search needs in
+    (back-rows (a .c) (a .s) (h .0) (a .t5) (a .p) d (h .1), ap size (stands (kindFor (a .c)) (h .0) .last .lines) ∙ sym (told (kindFor (a .c)) (h .0) .last-bits))
 
 same-length : tie.Need-same-length
 same-length c = search needs
 
 returns : tie.Need-returns
-unfolding backBits
 returns c =
-    let w : Listed (c .before .before .before .before .before .before .before .before .row-of .result .after) (rowFor (c .before .before .before .before .before .before .before .before .before .before .before .args .c) .after) = subst (λ (f : Kind). Listed (c .before .before .before .before .before .before .before .before .row-of .result .after) (rowOf f .after)) (c .before .before .before .before .before .before .before .before .before .kind-for .ensures) (stands _ (c .before .before .before .before .before .before .before .before .row-of .ensures) .last) in
-    let d : length (c .before .before .before .before .before .before .before .before .before .before .before .args .t4) ≡ 35 = search needs in
-    have-put _ _ w _ _ (c .before .before .before .before .before .widened .result) _ _ _ (back-fill (c .before .before .before .before .before .before .before .before .before .before .before .args .c) (c .before .before .before .before .before .before .before .before .before .before .before .args .t4) d (c .before .before .before .before .before .widened .result) (c .before .before .before .before .before .widened .ensures .0) (c .before .before .before .before .before .widened .ensures .1)) (c .before .before .put-lines .ensures)
+    let a = c .before .before .before .before .before .before .before .before .args in
+    back-put (a .c) (a .s) (c .before .before .before .before .before .before .before .before .pre .0) (a .t5) (a .out .now) (c .before .before .put-rows .last .0) (a .p) (c .before .before .put-rows .result) (c .before .before .put-rows .ensures)
 
 pub put-back-spec : {M : Type 1} → statement M
 put-back-spec =
     tie.close
-    (tie.spec
-    kind-for-requires
-    row-of-requires
-    slice-aggregate-widened
-    widened-requires
-    slice-aggregate-put-lines
-    put-lines-requires
-    same-length
-    returns)
+    (tie.spec sub-put-rows part-put-rows-start part-put-rows-end put-rows-requires same-length returns)

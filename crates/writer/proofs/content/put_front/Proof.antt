@@ -1,49 +1,48 @@
 -- `writer::content::put_front` meets its contract. Assumes nothing.
-use mathlib.Core.Path.{_≡_, ap, _∙_, subst}
+use mathlib.Core.Path.{_≡_, subst}
 use mathlib.Core.List.{[]}
 use native.Mathlib.Omega.{arith}
 use lib.ListN.{length}
-use Rattle.packet.proofs.Spans.{Listed, stands}
 use Rattle.format.specs.Format.{size, encode, fill}
-use Rattle.packet.specs.declared.Kind.{Kind}
 use Rattle.packet.specs.declared.Counting.{Counting}
-use Rattle.packet.specs.Table.{rowOf, countLine}
+use Rattle.packet.specs.Table.{countLine}
 use Rattle.packet.specs.Content.{kindFor}
 use Rattle.packet.specs.Writing.{rowFor, frontFor}
+use Rattle.packet.proofs.Good.{good}
+use Rattle.packet.proofs.Spans.{stands}
 use Rattle.writer.specs.Puts.{After}
 use Rattle.writer.specs.Parts.{frontBits, frontSize}
 use Rattle.writer.proofs.Rows.{encode-size}
-use Rattle.packet.proofs.Good.{good}
-use Rattle.writer.proofs.Contents.{numbers-fit, front-fill, length-front}
-use Rattle.writer.proofs.Shapes.{can-put, have-put, then-put}
+use Rattle.writer.proofs.Contents.{length-front}
+use Rattle.writer.proofs.Shapes.{then-put}
+use Rattle.writer.proofs.Parted.{told, first-size, first-put}
 use borrow.Author.Needs.{needs}
 use Rattle.writer.proofs.content.put_front.Statement.{statement}
 use Rattle.writer.proofs.content.put_front.Tie as tie
 
-kind-for-requires : tie.Need-kind-for-requires
-kind-for-requires c κs = search needs
+put-own-requires : tie.Need-put-own-requires
+put-own-requires c κs = (c .before .before .before .pre .0, c .before .before .before .pre .2)
 
-row-of-requires : tie.Need-row-of-requires
-row-of-requires c κs = search needs
+sub-put-beside : tie.Need-sub-put-beside
+sub-put-beside c = omega (arith, c .before .before .before .put-own .ensures .place)
 
-front-of-requires : tie.Need-front-of-requires
-front-of-requires c κs = search needs
+sub-put-beside-2 : tie.Need-sub-put-beside-2
+sub-put-beside-2 c =
+    let x = c .before .before .before .before .before .before .before .before .args .c in
+    omega (arith, c .before .before .before .before .put-own .ensures .place, first-size x, told (kindFor x) (c .before .before .before .before .before .before .before .before .pre .0 .row) .first-bits)
 
-slice-aggregate-put-lines : tie.Need-slice-aggregate-put-lines
-slice-aggregate-put-lines c = search needs
-
-put-lines-requires : tie.Need-put-lines-requires
-put-lines-requires c κs =
-    let w : Listed (c .before .before .before .before .row-of .result .before) (rowFor (c .before .before .before .before .before .before .before .args .c) .before) = subst (λ (f : Kind). Listed (c .before .before .before .before .row-of .result .before) (rowOf f .before)) (c .before .before .before .before .before .kind-for .ensures) (stands _ (c .before .before .before .before .row-of .ensures) .first) in
-    let z = good (kindFor (c .before .before .before .before .before .before .before .args .c)) in
-    let n = numbers-fit (c .before .before .before .before .before .before .before .args .c) in
-    let l = c .before .before .front-of .ensures .long in
-    can-put _ _ w _ _ (omega (arith, n .1, n .2)) (omega arith) (omega (arith, c .before .before .before .before .before .before .before .pre .1))
+put-beside-requires : tie.Need-put-beside-requires
+put-beside-requires c κs =
+    let x = c .before .before .before .before .before .before .before .before .args .c in
+    let h = c .before .before .before .before .before .before .before .before .pre in
+    let q = c .before .before .before .before .put-own .ensures .place in
+    (h .0, omega (arith, q, first-size x, told (kindFor x) (h .0 .row) .first-bits), omega (arith, q, h .2, first-size x, good (kindFor x) .first))
 
 put-count-requires : tie.Need-put-count-requires
 put-count-requires c κs =
-    let w : Listed (c .before .before .before .before .before .before .before .before .row-of .result .before) (rowFor (c .before .before .before .before .before .before .before .before .before .before .before .args .c) .before) = subst (λ (f : Kind). Listed (c .before .before .before .before .before .before .before .before .row-of .result .before) (rowOf f .before)) (c .before .before .before .before .before .before .before .before .before .kind-for .ensures) (stands _ (c .before .before .before .before .before .before .before .before .row-of .ensures) .first) in
-    (c .before .before .before .before .before .before .before .before .before .before .before .pre .0, omega (arith, c .before .before .before .put-lines .ensures .place, ap size (w .lines), good (kindFor (c .before .before .before .before .before .before .before .before .before .before .before .args .c)) .first, c .before .before .before .before .before .before .before .before .before .before .before .pre .1))
+    let x = c .before .before .before .before .before .before .before .before .before .before .before .before .args .c in
+    let h = c .before .before .before .before .before .before .before .before .before .before .before .before .pre in
+    (h .1, omega (arith, c .before .before .before .before .before .before .before .before .put-own .ensures .place, c .before .before .before .put-beside .ensures .place, h .2, first-size x, good (kindFor x) .first))
 
 same-length : tie.Need-same-length
 same-length c = search needs
@@ -51,14 +50,15 @@ same-length c = search needs
 returns : tie.Need-returns
 unfolding frontBits frontSize
 returns c =
-    let x = c .before .before .before .before .before .before .before .before .before .before .before .before .before .before .args in
-    let w : Listed (c .before .before .before .before .before .before .before .before .before .before .before .row-of .result .before) (rowFor (x .c) .before) = subst (λ (f : Kind). Listed (c .before .before .before .before .before .before .before .before .before .before .before .row-of .result .before) (rowOf f .before)) (c .before .before .before .before .before .before .before .before .before .before .before .before .kind-for .ensures) (stands _ (c .before .before .before .before .before .before .before .before .before .before .before .row-of .ensures) .first) in
-    let d : length (x .digits) ≡ 35 = search needs in
-    let s : c .before .before .before .before .before .before .before .before .before .before .before .row-of .result .counting ≡ rowFor (x .c) .counting = stands _ (c .before .before .before .before .before .before .before .before .before .before .before .row-of .ensures) .same ∙ ap (λ (f : Kind). rowOf f .counting) (c .before .before .before .before .before .before .before .before .before .before .before .before .kind-for .ensures) in
-    let a : After (x .out .now) (c .before .before .before .before .before .before .put-lines .last .0) (x .p) (encode (rowFor (x .c) .before) (fill (rowFor (x .c) .before) (frontFor (x .c) (x .digits)))) (c .before .before .before .before .before .before .put-lines .result) (size (rowFor (x .c) .before)) =
-    have-put _ _ w _ _ (c .before .before .before .before .before .before .before .before .before .front-of .result) _ _ _ (front-fill (x .c) (x .digits) d (c .before .before .before .before .before .before .before .before .before .front-of .result) (c .before .before .before .before .before .before .before .before .before .front-of .ensures)) (c .before .before .before .before .before .before .put-lines .ensures) in
-    let b : After (c .before .before .before .before .before .before .put-lines .last .0) (c .before .before .put-count .last .0) (c .before .before .before .before .before .before .put-lines .result) (encode (countLine (rowFor (x .c) .counting) (x .k)) (fill (countLine (rowFor (x .c) .counting) (x .k)) [])) (c .before .before .put-count .result) (size (countLine (rowFor (x .c) .counting) (x .k))) =
-    subst (λ (t : Counting). After (c .before .before .before .before .before .before .put-lines .last .0) (c .before .before .put-count .last .0) (c .before .before .before .before .before .before .put-lines .result) (encode (countLine t (x .k)) (fill (countLine t (x .k)) [])) (c .before .before .put-count .result) (size (countLine t (x .k)))) s (c .before .before .put-count .ensures) in
+    let x = c .before .before .before .before .before .before .before .before .before .before .before .before .before .before .before .args in
+    let h = c .before .before .before .before .before .before .before .before .before .before .before .before .before .before .before .pre in
+    let d : length (x .digits) ≡ 35 = search (needs, c .before .before .before .before .before .before .before .before .before .before .before .before .before .before .before .good .1 .1 .1 .1 .1 .0) in
+    let o = c .before .before .before .before .before .before .put-beside .last .0 in
+    let q = c .before .before .before .before .before .before .put-beside .result in
+    let a : After (x .out .now) o (x .p) (encode (rowFor (x .c) .before) (fill (rowFor (x .c) .before) (frontFor (x .c) (x .digits)))) q (size (rowFor (x .c) .before)) =
+    first-put (x .c) (x .digits) (x .out .now) (c .before .before .before .before .before .before .before .before .before .before .before .put-own .last .0) o (x .p) (c .before .before .before .before .before .before .before .before .before .before .before .put-own .result) q (c .before .before .before .before .before .before .before .before .before .before .before .put-own .ensures) (c .before .before .before .before .before .before .put-beside .ensures) in
+    let b : After o (c .before .before .put-count .last .0) q (encode (countLine (rowFor (x .c) .counting) (x .k)) (fill (countLine (rowFor (x .c) .counting) (x .k)) [])) (c .before .before .put-count .result) (size (countLine (rowFor (x .c) .counting) (x .k))) =
+    subst (λ (t : Counting). After o (c .before .before .put-count .last .0) q (encode (countLine t (x .k)) (fill (countLine t (x .k)) [])) (c .before .before .put-count .result) (size (countLine t (x .k)))) (stands (kindFor (x .c)) (h .0 .row) .same) (c .before .before .put-count .ensures) in
     let e = length-front (x .c) (x .digits) d in
     then-put _ _ _ _ _ _ _ _ _ _ (encode-size (rowFor (x .c) .before) (frontFor (x .c) (x .digits)) (omega arith)) a b
 
@@ -66,11 +66,10 @@ pub put-front-spec : {M : Type 1} → statement M
 put-front-spec =
     tie.close
     (tie.spec
-    kind-for-requires
-    row-of-requires
-    front-of-requires
-    slice-aggregate-put-lines
-    put-lines-requires
+    put-own-requires
+    sub-put-beside
+    sub-put-beside-2
+    put-beside-requires
     put-count-requires
     same-length
     returns)

@@ -29,10 +29,10 @@ same-length c = search needs
 
 returns : tie.Need-returns
 returns c =
-    head-put _ (c .before .before .before .before .before .before .before .before .before .before .put-field .last .0) (c .before .before .before .before .before .before .put-field2 .last .0) _ _ _ _
+    (head-put _ (c .before .before .before .before .before .before .before .before .before .before .put-field .last .0) (c .before .before .before .before .before .before .put-field2 .last .0) _ _ _ _
     (field-put _ _ 0 5 _ (omega arith) (omega arith) (c .before .before .before .before .before .before .before .before .before .before .put-field .ensures))
     (field-put _ _ 5 11 _ (omega arith) (omega arith) (c .before .before .before .before .before .before .put-field2 .ensures))
-    (field-put _ _ 16 8 _ (omega arith) (omega arith) (c .before .before .put-field3 .ensures))
+    (field-put _ _ 16 8 _ (omega arith) (omega arith) (c .before .before .put-field3 .ensures))) .put
 
 pub put-head-spec : {M : Type 1} → statement M
 put-head-spec =

@@ -25,8 +25,8 @@ add-line-at c = omega (arith, c .before .before .before .before .pre .few .1, la
 line-at-requires : tie.Need-line-at-requires Inv-loop μ-loop
 line-at-requires c κs = search needs
 
-put-line-requires : tie.Need-put-line-requires Inv-loop μ-loop
-put-line-requires c κs =
+put-each-requires : tie.Need-put-each-requires Inv-loop μ-loop
+put-each-requires c κs =
     let ts = c .before .before .before .before .before .before .args .ts in
     let h = c .before .before .before .before .before .before .pre in
     let k = c .before .before .before .loop in
@@ -65,7 +65,7 @@ loop-again c =
     let k = c .before .before .before .before .before .before .before .before .loop in
     let t = c .before .before .before .before .before .before .line-at .result in
     let u = laws.turn-at (ts .from) (ts .m) (k .j) t (c .before .before .before .before .before .before .before .before .before .before .before .pre .few .1) (omega arith) (c .before .before .before .before .before .before .line-at .ensures) in
-    going-turn (linesIn ts) (k .j) (octets 0) t (u .inside) (u .same) (u .good) _ _ _ _ (k .out) (c .before .before .before .before .put-line .last .0) (k .q) (k .i) _ _ (omega arith) (k .inv) (c .before .before .before .before .put-line .ensures) (c .before .width .ensures .0) (c .taken .ensures)
+    going-turn (linesIn ts) (k .j) (octets 0) t (u .inside) (u .same) (u .good) _ _ _ _ (k .out) (c .before .before .before .before .put-each .last .0) (k .q) (k .i) _ _ (omega arith) (k .inv) (c .before .before .before .before .put-each .ensures) (c .before .width .ensures .0) (c .taken .ensures)
 
 same-length : tie.Need-same-length Inv-loop μ-loop
 same-length c = c .before .loop .inv .kept
@@ -84,7 +84,7 @@ put-lines-spec =
     loop-holds
     add-line-at
     line-at-requires
-    put-line-requires
+    put-each-requires
     width-requires
     add-q
     taken-requires
