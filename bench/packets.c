@@ -171,18 +171,26 @@ static void make_rows(void)
     }
 }
 
-/* `way` 0 is ours. The signature changes from turn to turn, and the sum keeps the work from being left out. */
+static size_t told(const struct plain_opened *o)
+{
+    return (size_t)o->answer + o->fields.signature[63] + o->entries[7] + o->fields.digits[3];
+}
+
+/* `way` 0 is ours. The signature changes from turn to turn, and the sum keeps the work from being left out. Both fill a record of the loop's own: one that
+   is given back by value is not copied once more. */
 static size_t reading(int way, int row, size_t times)
 {
-    static struct plain_opened o;
     size_t sum = 0;
     for (size_t i = 0; i < times; i++) {
         packets[row][lengths[row] - 1] = (uint8_t)i;
-        if (way == 0)
-            o = codec_read(packets[row], lengths[row]);
-        else
+        if (way == 0) {
+            const struct plain_opened o = codec_read(packets[row], lengths[row]);
+            sum += told(&o);
+        } else {
+            struct plain_opened o;
             plain_read(packets[row], lengths[row], &o);
-        sum += o.answer + o.fields.signature[63] + o.entries[7] + o.fields.digits[3];
+            sum += told(&o);
+        }
     }
     return sum;
 }
