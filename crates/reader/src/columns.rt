@@ -87,8 +87,25 @@ fn digits_column(
     good
 }
 
-// A byte in each of n rows, s bytes apart, from byte k on; whether each is lo to hi.
-fn octet_column(
+// A byte in each of n rows, s bytes apart, from byte k on, as it is.
+fn copy_column(b: &[u8], k: usize, s: usize, n: usize, out: &mut [u8], i: usize, w: usize)
+    requires { ⌜ Octets (length (now b)) k s n (length (now out)) i w ⌝ }
+    ensures { λ _. ⌜ now (out .exit) ≡ strips (now (out .entry)) i w n (λ (j : ℕ). run (bits (now (b .entry))) (k * 8 + j * (s * 8)) 1 8) ⌝ }
+{
+    let mut at = k;
+    let mut to = i;
+    let mut j: usize = 0;
+    while j < n {
+        let x = b[at];
+        out[to] = x;
+        at += s;
+        to += w;
+        j += 1;
+    }
+}
+
+// The same, and whether each is lo to hi.
+fn tested_column(
     lo: u8,
     hi: u8,
     b: &[u8],
@@ -120,6 +137,39 @@ fn octet_column(
         j += 1;
     }
     good
+}
+
+// Whether any byte is lo to hi.
+fn any_byte(lo: u8, hi: u8) -> bool
+    ensures { λ r. ⌜ (r ≡ true → (lo ≡ 0) × (hi ≡ 255)) ⌝ }
+{
+    if lo != 0 {
+        return false;
+    }
+    hi == 255
+}
+
+// The same; bytes of which none is wrong are only copied.
+fn octet_column(
+    lo: u8,
+    hi: u8,
+    b: &[u8],
+    k: usize,
+    s: usize,
+    n: usize,
+    out: &mut [u8],
+    i: usize,
+    w: usize,
+) -> bool
+    requires { ⌜ Octets (length (now b)) k s n (length (now out)) i w ⌝ }
+    ensures { λ r. ⌜ (now (out .exit) ≡ strips (now (out .entry)) i w n (λ (j : ℕ). run (bits (now (b .entry))) (k * 8 + j * (s * 8)) 1 8)) × (r ≡ every n (λ (j : ℕ). inside lo hi (run (bits (now (b .entry))) (k * 8 + j * (s * 8)) 1 8))) ⌝ }
+{
+    if any_byte(lo, hi) {
+        copy_column(b, k, s, n, out, i, w);
+        true
+    } else {
+        tested_column(lo, hi, b, k, s, n, out, i, w)
+    }
 }
 
 // Bits that are always the same, in each of n rows, from bit p on.
