@@ -25,7 +25,7 @@ use Rattle.packet.specs.Content.{numbersOf}
 use Rattle.packet.specs.Reading.{isUnknown, partAt, opened, textAnswer}
 use Rattle.packet.specs.Writing.{frontFor, sizeFor, tableFor, valuesFor, bodyFor, bytesFor, countBad, digitBad, notTaken, writtenAnswer}
 use Rattle.packet.proofs.Column.{content-size}
-use Rattle.writer.specs.Parts.{Counts, contentSize, frontFine, rowsFine, backFine}
+use Rattle.writer.specs.Parts.{Counts, contentSize, frontFine, rowsFine, backFine, ownFine}
 use Rattle.writer.proofs.Fine.{inside-append}
 use Rattle.writer.proofs.Digits.{fine-25, fine-27}
 use Rattle.writer.proofs.Together.{code-size, packet-long}
@@ -100,14 +100,13 @@ counts-of : (s : Story) (ds : List ℕ) (t : ℕ) (codes body : List ℕ) → le
 unfolding bodyFor need
 counts-of s ds t codes body n c = record { bodied = ap length (take-all (t * 1) body (omega arith)) ∙ omega arith; coded = c }
 
--- the first lines of a text: its digits are digits, and its ranges do not go by its digits and its length
+-- the first lines of a text: its digits are digits, and its own numbers do not go by its length
 text-digits : (k z t : ℕ) (ds : List ℕ) → inside 0 9 ds ≡ true → frontFine 25 (content.Text k z t) ds ≡ true
 unfolding fine fill frontFor need
 text-digits k z t ds h = and-true (inside 0 9 (take 35 (take 35 ds))) ∙ inside-take 0 9 35 (take 35 ds) (inside-take 0 9 35 ds h)
 
-text-range : (k z t u : ℕ) (ds es : List ℕ) → frontFine 27 (content.Text k z t) ds ≡ frontFine 27 (content.Text k z u) es
-unfolding fine fill frontFor need inside
-text-range k z t u ds es = refl
+text-own : (k z t u : ℕ) → ownFine (content.Text k z t) ≡ ownFine (content.Text k z u)
+text-own k z t u = refl
 
 -- and there are no last lines
 text-lines : (a k z t : ℕ) (ds body : List ℕ) → frontFine a (content.Text k z t) ds ≡ true → rowsFine a (content.Text k z t) body ≡ true
@@ -131,10 +130,10 @@ module _ (s : Story) (codes : List ℕ) (y : Lengths s) (own : first (ownCases s
       let p = and-both (inside 0 9 codes) _ e in
       (p .0, and-both (frontFine 25 (bare s .content) (s .digits) && (rowsFine 25 (bare s .content) (headOf 1 1) && backFine 25 (bare s .content) (s .digits))) (inside 0 9 (s .certificate)) (p .1) .1)
 
-  bare-27 : frontFine 27 (bare s .content) (s .digits) ≡ true
+  bare-27 : ownFine (bare s .content) ≡ true
   bare-27 =
       let e = sym (fine-27 (bare s) codes (headOf 1 1) bare-counts (y .digits-long) (y .certificate-long) (y .signature-long)) ∙ bare-taken .c27 in
-      and-both (frontFine 27 (bare s .content) (s .digits)) _ e .0
+      and-both (ownFine (bare s .content)) _ e .0
 
   pub text-taken : (ds : List ℕ) (t : ℕ) (body : List ℕ) → length ds ≡ 35 → inside 0 9 ds ≡ true → length body ≡ t → 97 + 12 * s .codes + t ≤ 250 → Taken (fieldsWith s ds t) codes body
   unfolding need inside
@@ -150,7 +149,7 @@ module _ (s : Story) (codes : List ℕ) (y : Lengths s) (own : first (ownCases s
         kind = bare-taken .kind;
         body-kept = refl;
         digits-kept = ends ds l;
-        c27 = fine-27 f codes body c l (y .certificate-long) (y .signature-long) ∙ text-lines 27 (s .kind) 0 t ds body (text-range (s .kind) 0 t 4 ds (s .digits) ∙ bare-27) (octets-fine 27 t (fill (times t (octets 1 ∷ [])) (bodyFor (f .content) body)) refl);
+        c27 = fine-27 f codes body c l (y .certificate-long) (y .signature-long) ∙ and-yes _ (text-own (s .kind) 0 t 4 ∙ bare-27) ∙ octets-fine 27 t (fill (times t (octets 1 ∷ [])) (bodyFor (f .content) body)) refl;
         day = refl;
         small = omega (arith, text-size s ds t body);
       }

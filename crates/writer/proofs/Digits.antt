@@ -22,7 +22,7 @@ module _ (f : Fields) (codes body : List ℕ) (h : Counts f codes body) (d : len
   contents a = frontFine a (f .content) (f .digits) && (rowsFine a (f .content) body && backFine a (f .content) (f .digits))
 
   -- what is left is codes, content and certificate
-  fine-25 : fine 25 (tableFor f body) (valuesFor f codes body) ≡ (inside 0 9 codes && (contents 25 && inside 0 9 (f .certificate)))
+  pub fine-25 : fine 25 (tableFor f body) (valuesFor f codes body) ≡ (inside 0 9 codes && (contents 25 && inside 0 9 (f .certificate)))
   fine-25 =
       packet-fine f codes body h d lc ls digit
       ∙ rw (codes-digits (f .codes) codes (h .coded), ending-digits (f .time) (f .certificate) (f .signature) lc)
