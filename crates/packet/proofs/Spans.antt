@@ -17,7 +17,7 @@ use Rattle.packet.specs.declared.RowLines.{RowLines}
 use Rattle.packet.specs.declared.Kind.{Kind}
 use Rattle.packet.specs.declared.Kind.the-variants as kind
 use Rattle.packet.specs.Table.{kinds, Row, rowOf, code, ending}
-use Rattle.packet.specs.InCode.{linesOfEach, everyLine, linesUpTo, linesFor, ownLines, ownOf, besideOf, codeAt, endingAt, rowAt, linesIn, Stands}
+use Rattle.packet.specs.InCode.{linesOfEach, everyLine, linesUpTo, ownLines, ownOf, besideOf, codeAt, endingAt, rowAt, linesIn, Stands}
 use Rattle.packet.proofs.Each.{each-kind}
 use Rattle.packet.proofs.Columns.{columned}
 

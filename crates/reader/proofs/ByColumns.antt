@@ -3,7 +3,7 @@ use mathlib.Core.Path.{_≡_, refl, sym, ap, ap₂, _∙_}
 use mathlib.Core.Bool.{Bool, true, false, cond, _&&_}
 use mathlib.Core.List.{List, [], _∷_, _++_, append-nil}
 use Prim.Native.Nat.{ℕ, zero, suc, _+_, _*_, _%_, _<_, _≤_}
-use native.Mathlib.Nat.{add-zero, zero-add, zero-mul}
+use native.Mathlib.Nat.{add-zero, zero-mul}
 use native.Mathlib.Numerals.{add-one}
 use native.Mathlib.Omega.{arith}
 use lib.ListN.{length, getD, take, drop, drop-of-length-le, take-append-drop}
@@ -87,23 +87,11 @@ pub need-within : (T : List Line) (j : ℕ) → need (take j T) ≤ need T
 need-within T j = omega (arith, sym (ap need (take-append-drop j T)) ∙ need-append (take j T) (drop j T))
 
 -- ---- where a line stands
-pub stands-at : (T : List Line) (j q : ℕ) (d t : Line) → j < length T → t ≡ getD T j d → columns q T ≡ true → column (q + size (take j T)) t ≡ true
-unfolding columns size
+pub stands-at : (T : List Line) (j q : ℕ) (d t : Line) → j < length T → t ≡ getD T j d → columns q T ≡ true → column t ≡ true
+unfolding columns
 stands-at [] j q d t h e c = absurd (omega arith)
-stands-at (u ∷ us) zero q d t h e c = ap₂ column (add-zero q) e ∙ and-both (column q u) (columns (q + u .count * u .width) us) c .0
-stands-at (u ∷ us) (suc j) q d t h e c =
-    let x : q + (u .count * u .width + size (take j us)) ≡ q + u .count * u .width + size (take j us) = omega arith in
-    ap (λ (y : ℕ). column y t) x ∙ stands-at us j (q + u .count * u .width) d t (omega arith) e (and-both (column q u) (columns (q + u .count * u .width) us) c .1)
-
--- a byte's edge before a column changes nothing
-shifted : (p q : ℕ) (t : Line) → p % 8 ≡ 0 → column (p + q) t ≡ column q t
-shifted p q t h =
-    let a : (p + q) % 8 ≡ q % 8 = omega arith in
-    let c : (p + q + t .count * 4) % 8 ≡ (q + t .count * 4) % 8 = omega arith in
-    rw (a, c)
-
-pub edge-at : (T : List Line) (j p q : ℕ) (d t : Line) → j < length T → t ≡ getD T j d → columns 0 T ≡ true → p % 8 ≡ 0 → q ≡ p + size (take j T) → column q t ≡ true
-edge-at T j p q d t h e c s f = ap (λ (x : ℕ). column x t) f ∙ shifted p (size (take j T)) t s ∙ ap (λ (x : ℕ). column x t) (sym (zero-add (size (take j T)))) ∙ stands-at T j 0 d t h e c
+stands-at (u ∷ us) zero q d t h e c = ap column e ∙ and-both (column u) (columns (q + u .count * u .width) us) c .0
+stands-at (u ∷ us) (suc j) q d t h e c = stands-at us j (q + u .count * u .width) d t (omega arith) e (and-both (column u) (columns (q + u .count * u .width) us) c .1)
 
 -- ---- the beginning, the end, and one row
 pub column-first : (T : List Line) (b o : List ℕ) (p i w n s : ℕ) → o ≡ strips o i w n (λ (k : ℕ). numbersAt (take 0 T) b (p + k * s))
@@ -122,7 +110,7 @@ unfolding columns size
 ends [] q c = ap (λ (x : ℕ). x % 8) (add-zero q) ∙ eqb-true (q % 8) 0 c
 ends (t ∷ ts) q c =
     let x : q + (t .count * t .width + size ts) ≡ q + t .count * t .width + size ts = omega arith in
-    ap (λ (y : ℕ). y % 8) x ∙ ends ts (q + t .count * t .width) (and-both (column q t) (columns (q + t .count * t .width) ts) c .1)
+    ap (λ (y : ℕ). y % 8) x ∙ ends ts (q + t .count * t .width) (and-both (column t) (columns (q + t .count * t .width) ts) c .1)
 
 pub rows-taken : (T : List Line) (b o o″ : List ℕ) (p w n s : ℕ) → s ≡ size T → w ≡ need T → o″ ≡ strips o 0 w n (λ (k : ℕ). numbersAt T b (p + k * s)) → o″ ≡ sets o 0 (numbersAt (times n T) b p)
 rows-taken T b o o″ p w n s es ew e =

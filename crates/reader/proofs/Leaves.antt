@@ -10,18 +10,19 @@ use native.Mathlib.Omega.{arith}
 use lib.ListN.{length, getD, getD-replicate, set, drop-of-length-le}
 use lib.Seq.{sets}
 use lib.Dec.{leb, eqb}
-use borrow.Author.Tests.{le-leb, lt-leb, leb-true, eq-eqb, ne-eqb, eqb-true}
+use borrow.Author.Tests.{le-leb, lt-leb, leb-true, eq-eqb, ne-eqb, eqb-true, eqb-false}
 use Rattle.laws.specs.Bits.{at, run, bits}
 use Rattle.laws.specs.Strips.{strips, every}
 use Rattle.laws.proofs.Cases.{if-yes, if-no, and-yes, and-no, and-both}
+use Rattle.laws.proofs.Elements.{by-test}
 use Rattle.laws.proofs.Strips.{strips-same, every-same}
 use Rattle.laws.proofs.Writes.{from-front}
 use Rattle.format.specs.declared.Line.{Line}
 use Rattle.format.specs.Format.{inside, own}
 use Rattle.format.proofs.Sound.{sound-is}
 use Rattle.packet.specs.Reading.{zeros}
-use Rattle.packet.specs.Columns.{digitsColumn, octetColumn, sameColumn, column}
-use Rattle.reader.specs.Taking.{ownAt, Digits, Octets, Column}
+use Rattle.packet.specs.Columns.{single, digitsLine, octetLine, column}
+use Rattle.reader.specs.Taking.{ownAt, Digits, Octets, Each, Column}
 use Rattle.format.proofs.Leaves.{run-done}
 use Rattle.format.proofs.Halves.{byte-at, low-half, pairs-step}
 
@@ -140,74 +141,61 @@ strips-none zero f l i w e = refl
 strips-none (suc n) f l i w e = ap (sets (strips l i w n f) (i + n * w)) (e n) ∙ strips-none n f l i w e
 
 -- ---- what a line is that is taken by columns
-pub same-is : (p : ℕ) (t : Line) → column p t ≡ true → t .given ≡ false → (t .count ≡ 1) × (t .width ≤ 8)
-same-is p t e g =
-    let a = and-both (eqb (t .count) 1 && leb (p % 8 + t .width) 8) (leb (t .lo) (t .hi)) (sym (if-no (cond (eqb (t .width) 4) (digitsColumn p t) (octetColumn p t)) (sameColumn p t) g) ∙ e) in
-    let b = and-both (eqb (t .count) 1) (leb (p % 8 + t .width) 8) (a .0) in
-    (eqb-true (t .count) 1 (b .0), omega (arith, leb-true (p % 8 + t .width) 8 (b .1)))
+pub same-is : (t : Line) → column t ≡ true → t .given ≡ false → t .count ≡ 1
+same-is t e g = eqb-true (t .count) 1 (sym (if-no (cond (eqb (t .width) 4) (digitsLine t) (octetLine t)) (single t) g) ∙ e)
 
-pub record DigitsLine (p : ℕ) (t : Line) : Type 0 where
-  pub least : t .lo ≡ 0
-  pub most : t .hi ≡ 9
-  pub edge : (p + t .count * 4) % 8 ≡ 0
+pub digits-is : (t : Line) → column t ≡ true → t .given ≡ true → t .width ≡ 4 → (t .lo ≡ 0) × (t .hi ≡ 9)
+digits-is t e g w =
+    let d = sym (if-yes (digitsLine t) (octetLine t) (eq-eqb (t .width) 4 w)) ∙ sym (if-yes (cond (eqb (t .width) 4) (digitsLine t) (octetLine t)) (single t) g) ∙ e in
+    let b = and-both (eqb (t .lo) 0) (eqb (t .hi) 9) (and-both (eqb (t .lo) 0 && eqb (t .hi) 9) (eqb (t .answer) 25) d .0) in
+    (eqb-true (t .lo) 0 (b .0), eqb-true (t .hi) 9 (b .1))
 
-pub digits-is : (p : ℕ) (t : Line) → column p t ≡ true → t .given ≡ true → t .width ≡ 4 → DigitsLine p t
-digits-is p t e g w =
-    let d = sym (if-yes (digitsColumn p t) (octetColumn p t) (eq-eqb (t .width) 4 w)) ∙ sym (if-yes (cond (eqb (t .width) 4) (digitsColumn p t) (octetColumn p t)) (sameColumn p t) g) ∙ e in
-    let a = and-both (eqb (t .lo) 0 && eqb (t .hi) 9) (eqb (t .answer) 25 && eqb ((p + t .count * 4) % 8) 0) d in
-    let b = and-both (eqb (t .lo) 0) (eqb (t .hi) 9) (a .0) in
-    let f = and-both (eqb (t .answer) 25) (eqb ((p + t .count * 4) % 8) 0) (a .1) in
-    record { least = eqb-true (t .lo) 0 (b .0); most = eqb-true (t .hi) 9 (b .1); edge = eqb-true ((p + t .count * 4) % 8) 0 (f .1) }
-
-pub record OctetLine (p : ℕ) (t : Line) : Type 0 where
+pub record OctetLine (t : Line) : Type 0 where
   pub wide : t .width ≡ 8
   pub one : t .count ≡ 1
-  pub edge : p % 8 ≡ 0
   pub least : t .lo ≤ 255
   pub most : t .hi ≤ 255
 
-pub octet-is : (p : ℕ) (t : Line) → column p t ≡ true → t .given ≡ true → (t .width ≡ 4 → ⊥) → OctetLine p t
-octet-is p t e g w =
-    let d = sym (if-no (digitsColumn p t) (octetColumn p t) (ne-eqb (t .width) 4 w)) ∙ sym (if-yes (cond (eqb (t .width) 4) (digitsColumn p t) (octetColumn p t)) (sameColumn p t) g) ∙ e in
-    let a = and-both (eqb (t .width) 8 && eqb (t .count) 1) (eqb (p % 8) 0 && (leb (t .lo) 255 && leb (t .hi) 255)) d in
+pub octet-is : (t : Line) → column t ≡ true → t .given ≡ true → (t .width ≡ 4 → ⊥) → OctetLine t
+octet-is t e g w =
+    let d = sym (if-no (digitsLine t) (octetLine t) (ne-eqb (t .width) 4 w)) ∙ sym (if-yes (cond (eqb (t .width) 4) (digitsLine t) (octetLine t)) (single t) g) ∙ e in
+    let a = and-both (eqb (t .width) 8 && eqb (t .count) 1) (leb (t .lo) 255 && leb (t .hi) 255) d in
     let b = and-both (eqb (t .width) 8) (eqb (t .count) 1) (a .0) in
-    let f = and-both (eqb (p % 8) 0) (leb (t .lo) 255 && leb (t .hi) 255) (a .1) in
-    let h = and-both (leb (t .lo) 255) (leb (t .hi) 255) (f .1) in
-    record {
-      wide = eqb-true (t .width) 8 (b .0);
-      one = eqb-true (t .count) 1 (b .1);
-      edge = eqb-true (p % 8) 0 (f .0);
-      least = leb-true (t .lo) 255 (h .0);
-      most = leb-true (t .hi) 255 (h .1);
-    }
+    let f = and-both (leb (t .lo) 255) (leb (t .hi) 255) (a .1) in
+    record { wide = eqb-true (t .width) 8 (b .0); one = eqb-true (t .count) 1 (b .1); least = leb-true (t .lo) 255 (f .0); most = leb-true (t .hi) 255 (f .1) }
+
+narrow-is : (t : Line) → column t ≡ true → t .given ≡ true → t .width ≤ 8
+narrow-is t e g = by-test (eqb (t .width) 4) (λ x. omega (arith, eqb-true (t .width) 4 x)) (λ x. omega (arith, octet-is t e g (eqb-false (t .width) 4 x) .wide))
 
 module _ (t : Line) (bytes p s n places i w : ℕ) (c : Column t bytes p s n places i w) (g : t .given ≡ true) where
   own-is : own t ≡ t .count
   own-is = if-yes (t .count) 0 g
 
-  pub column-digits : t .width ≡ 4 → Digits (t .count) bytes ((p + t .count * 4) / 8) s n places i w
-  column-digits h =
-      let d = digits-is p t (c .fits) g h in
+  pub column-digits : t .width ≡ 4 → (p + t .count * 4) % 8 ≡ 0 → Digits (t .count) bytes ((p + t .count * 4) / 8) s n places i w
+  column-digits h d =
       let few = sound-is t (c .good) .few in
       let area : t .count * t .width ≡ t .count * 4 = ap (λ (x : ℕ). t .count * x) h in
       record {
-        enough = omega (arith, d .edge);
-        inside = λ k l. omega (arith, d .edge, area, c .inside k l, mul-assoc k s 8);
+        enough = omega (arith, d);
+        inside = λ k l. omega (arith, d, area, c .inside k l, mul-assoc k s 8);
         room = λ k l. omega (arith, own-is, c .room k l);
         near = omega (arith, few, c .near, mul-assoc n s 8);
         low = omega (arith, c .low);
       }
 
-  pub column-octets : (t .width ≡ 4 → ⊥) → Octets bytes (p / 8) s n places i w
-  column-octets h =
-      let d = octet-is p t (c .fits) g h in
+  pub column-octets : (t .width ≡ 4 → ⊥) → p % 8 ≡ 0 → Octets bytes (p / 8) s n places i w
+  column-octets h e =
+      let d = octet-is t (c .fits) g h in
       let area : t .count * t .width ≡ 8 = ap₂ (λ (x y : ℕ). x * y) (d .one) (d .wide) in
       record {
-        inside = λ k l. omega (arith, d .edge, area, c .inside k l, mul-assoc k s 8);
+        inside = λ k l. omega (arith, e, area, c .inside k l, mul-assoc k s 8);
         room = λ k l. omega (arith, own-is, d .one, c .room k l);
         near = omega (arith, c .near, mul-assoc n s 8);
         low = omega (arith, c .low);
       }
+
+  pub column-each : Each t p s n places i w
+  column-each = record { few = sound-is t (c .good) .few; narrow = narrow-is t (c .fits) g; room = λ k l. omega (arith, own-is, c .room k l); near = c .near; low = c .low }
 
 -- ---- pieces and tests that are the line's
 module _ (t : Line) (l : List ℕ) (p q c w : ℕ) (eq : q ≡ p) (ec : c ≡ t .count) (ew : w ≡ t .width) where

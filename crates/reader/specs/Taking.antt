@@ -41,10 +41,18 @@ pub record Octets (bytes k s n places i w : ℕ) : Type 0 where
   pub near : k + n * s ≤ 60000
   pub low : i + n * w ≤ 60000
 
+-- numbers of at most a byte in each of n rows, from bit p on
+pub record Each (t : Line) (p s n places i w : ℕ) : Type 0 where
+  pub few : t .count ≤ 64
+  pub narrow : t .width ≤ 8
+  pub room : (k : ℕ) → k < n → i + k * w + t .count ≤ places
+  pub near : p + n * (s * 8) ≤ 50000
+  pub low : i + n * w ≤ 50000
+
 -- a line in each of n rows, from bit p on
 pub record Column (t : Line) (bytes p s n places i w : ℕ) : Type 0 where
   pub good : sound t ≡ true
-  pub fits : column p t ≡ true
+  pub fits : column t ≡ true
   pub inside : (k : ℕ) → k < n → p + k * (s * 8) + t .count * t .width ≤ bytes * 8
   pub room : (k : ℕ) → k < n → i + k * w + own t ≤ places
   pub near : p + n * (s * 8) ≤ 50000

@@ -2,7 +2,7 @@
 ghost use mathlib.Core.Path.{_≡_};
 ghost use mathlib.Core.Bool.{true, cond};
 ghost use mathlib.Core.List.{[], _∷_};
-ghost use Prim.Native.Nat.{ℕ, _+_, _-_, _*_, _/_, _<_, _≤_};
+ghost use Prim.Native.Nat.{ℕ, _+_, _-_, _*_, _/_, _%_, _<_, _≤_};
 ghost use lib.ListN.{length, set, take, drop};
 ghost use lib.Seq.{sets};
 ghost use Rattle.laws.specs.Bits.{run, bits};
@@ -11,7 +11,7 @@ ghost use Rattle.format.specs.Format.{inside, own, size, need, decode, fine, so
 ghost use Rattle.packet.specs.InCode.{everyLine, linesIn};
 ghost use Rattle.packet.specs.Reading.{numbersAt};
 ghost use Rattle.reader.specs.Due.{asks, passing, lesser, Judged};
-ghost use Rattle.reader.specs.Taking.{ownAt, Column, Octets, Digits, Rows, Own};
+ghost use Rattle.reader.specs.Taking.{ownAt, Column, Each, Octets, Digits, Rows, Own};
 use format::Line;
 use packet::Lines;
 
@@ -174,7 +174,7 @@ fn octet_column(
 
 // Bits that are always the same, in each of n rows, from bit p on.
 fn same_column(t: Line, b: &[u8], p: usize, s: usize, n: usize) -> bool
-    requires { ⌜ (t .count ≡ 1) × (t .width ≤ 8) × (p + n * (s * 8) ≤ 65535) ⌝ }
+    requires { ⌜ (t .count ≡ 1) × (t .width ≤ 32) × (p + n * (s * 8) ≤ 65535) ⌝ }
     ensures { λ r. ⌜ r ≡ every n (λ (k : ℕ). inside (t .lo) (t .hi) (run (bits (now (b .entry))) (p + k * (s * 8)) (t .count) (t .width))) ⌝ }
 {
     let mut good = true;
@@ -189,6 +189,59 @@ fn same_column(t: Line, b: &[u8], p: usize, s: usize, n: usize) -> bool
             good = false;
         }
         q += s * 8;
+        j += 1;
+    }
+    good
+}
+
+// The numbers of a line of at most a byte each, one by one, from bit p on, to out from i on; whether each is as the line says.
+fn take_each(t: Line, b: &[u8], p: usize, out: &mut [u8], i: usize) -> bool
+    requires { ⌜ (t .count ≤ 64) × (t .width ≤ 8) × (p < 60000) × (i + t .count ≤ length (now out)) ⌝ }
+    ensures { λ r. ⌜ (now (out .exit) ≡ sets (now (out .entry)) i (run (bits (now (b .entry))) p (t .count) (t .width))) × (r ≡ inside (t .lo) (t .hi) (run (bits (now (b .entry))) p (t .count) (t .width))) ⌝ }
+{
+    let mut good = true;
+    let mut q = p;
+    let mut j: usize = 0;
+    while j < t.count {
+        let x = format::field(b, q, t.width);
+        out[i + j] = x as u8;
+        if x < t.lo {
+            good = false;
+        }
+        if x > t.hi {
+            good = false;
+        }
+        q += t.width;
+        j += 1;
+    }
+    good
+}
+
+// The same in each of n rows, wherever in a byte they begin.
+fn each_column(
+    t: Line,
+    b: &[u8],
+    p: usize,
+    s: usize,
+    n: usize,
+    out: &mut [u8],
+    i: usize,
+    w: usize,
+) -> bool
+    requires { ⌜ Each t p s n (length (now out)) i w ⌝ }
+    ensures { λ r. ⌜ (now (out .exit) ≡ strips (now (out .entry)) i w n (λ (k : ℕ). run (bits (now (b .entry))) (p + k * (s * 8)) (t .count) (t .width))) × (r ≡ every n (λ (k : ℕ). inside (t .lo) (t .hi) (run (bits (now (b .entry))) (p + k * (s * 8)) (t .count) (t .width)))) ⌝ }
+{
+    let mut good = true;
+    let mut q = p;
+    let mut to = i;
+    let mut j: usize = 0;
+    while j < n {
+        let here = take_each(t, b, q, out, to);
+        if !here {
+            good = false;
+        }
+        q += s * 8;
+        to += w;
         j += 1;
     }
     good
@@ -213,10 +266,15 @@ fn take_column(
         return same_column(t, b, p, s, n);
     }
     if t.width == 4 {
-        digits_column(t.count, b, (p + t.count * 4) / 8, s, n, out, i, w)
+        if (p + t.count * 4) % 8 == 0 {
+            return digits_column(t.count, b, (p + t.count * 4) / 8, s, n, out, i, w);
+        }
     } else {
-        octet_column(t.lo as u8, t.hi as u8, b, p / 8, s, n, out, i, w)
+        if p % 8 == 0 {
+            return octet_column(t.lo as u8, t.hi as u8, b, p / 8, s, n, out, i, w);
+        }
     }
+    each_column(t, b, p, s, n, out, i, w)
 }
 
 // The smaller of two.

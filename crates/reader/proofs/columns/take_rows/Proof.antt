@@ -56,7 +56,7 @@ take-column-requires c κs =
     let also = columns.need-more T (k .j) (octets 0) t (u .inside) (u .same) in
     record {
       good = u .good;
-      fits = columns.edge-at T (k .j) (a .p) (k .q) (octets 0) t (u .inside) (u .same) (pre .fits) (pre .start) (k .inv .1);
+      fits = columns.stands-at T (k .j) 0 (octets 0) t (u .inside) (u .same) (pre .fits);
       inside = λ n h. omega (arith, pre .inside n h, k .inv .1, more, columns.size-within T (k .j + 1));
       room = λ n h. omega (arith, pre .room n h, k .inv .2, also, columns.need-within T (k .j + 1), k .inv .5);
       near = omega (arith, pre .near, k .inv .3, pre .few .0);
