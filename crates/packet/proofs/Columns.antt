@@ -17,7 +17,7 @@ use Rattle.format.specs.declared.Line.{Line}
 use Rattle.format.specs.Format.{times, size, need, decode, flat, fine}
 use Rattle.format.proofs.Tables.{flat-append, fine-append}
 use Rattle.packet.specs.declared.Kind.{Kind}
-use Rattle.packet.specs.Table.{kinds, rowOf, code}
+use Rattle.packet.specs.Table.{kinds, rowOf}
 use Rattle.packet.specs.Content.{numbersIn}
 use Rattle.packet.specs.Reading.{hasEntries, numbersAt}
 use Rattle.packet.specs.InCode.{linesFor, ownLines, ownOf, besideOf}
@@ -69,10 +69,6 @@ columned f =
   where
     at : (i : ℕ) → i < 8 → getD (tests f) i true ≡ true
     at i l = all-at (λ (b : Bool). b) (tests f) i true (each-kind passed all-pass f) l
-
-pub code-columns : columns 0 code ≡ true
-unfolding columns
-code-columns = refl
 
 -- ---- rows of lines, row by row: the numbers of bits and what is due of them
 place : (p r s : ℕ) → p + s + r * s ≡ p + suc r * s

@@ -16,8 +16,8 @@ use Rattle.packet.specs.declared.Lines.{Lines}
 use Rattle.packet.specs.declared.RowLines.{RowLines}
 use Rattle.packet.specs.declared.Kind.{Kind}
 use Rattle.packet.specs.declared.Kind.the-variants as kind
-use Rattle.packet.specs.Table.{kinds, Row, rowOf, code, ending}
-use Rattle.packet.specs.InCode.{linesOfEach, everyLine, linesUpTo, ownLines, ownOf, besideOf, codeAt, endingAt, rowAt, linesIn, Stands}
+use Rattle.packet.specs.Table.{kinds, Row, rowOf}
+use Rattle.packet.specs.InCode.{linesOfEach, everyLine, linesUpTo, ownLines, ownOf, besideOf, rowAt, linesIn, Stands}
 use Rattle.packet.proofs.Each.{each-kind}
 use Rattle.packet.proofs.Columns.{columned}
 
@@ -117,12 +117,3 @@ parted f e =
       some = h;
       few = row-stands f .first .few;
     })
-
--- and of the lines of a code, and of what follows the content
-pub listed-code : {r : Lines} → r ≡ codeAt → Listed r code
-unfolding codeAt everyLine linesOfEach
-listed-code e = subst (λ (r : Lines). Listed r code) (sym e) (record { lines = refl; few = (omega arith, omega arith) })
-
-pub listed-ending : {r : Lines} → r ≡ endingAt → Listed r ending
-unfolding endingAt everyLine linesOfEach
-listed-ending e = subst (λ (r : Lines). Listed r ending) (sym e) (record { lines = refl; few = (omega arith, omega arith) })

@@ -11,11 +11,11 @@ use Rattle.packet.specs.declared.RowLines.{RowLines}
 use Rattle.packet.specs.declared.Kind.{Kind}
 use Rattle.packet.specs.declared.Content.{Content}
 use Rattle.packet.specs.declared.Laid.{Laid}
-use Rattle.packet.specs.Table.{kinds, typeOf, Row, rowOf, code, ending}
+use Rattle.packet.specs.Table.{kinds, typeOf, Row, rowOf}
 use Rattle.packet.specs.Content.{contentOf, partsOf, kindFor, numbersOf, numbersIn}
 use Rattle.packet.specs.Reading.{padded}
 
--- ---- the table as one list of lines: a code's, those of what follows the content, and each row's, kind by kind
+-- ---- the table of contents as one list of lines, kind by kind
 abbrev pub linesOf : Row → List Line
 linesOf r = r .before ++ (r .each ++ r .after)
 
@@ -26,7 +26,7 @@ linesOfEach (f ∷ fs) = linesOf (rowOf f) ++ linesOfEach fs
 
 -- all of them
 unfoldable pub everyLine : List Line
-everyLine = code ++ (ending ++ linesOfEach kinds)
+everyLine = linesOfEach kinds
 
 -- ---- where lines stand in it
 -- so many lines of these kinds come before the kind's own
@@ -36,19 +36,11 @@ linesUpTo f (g ∷ gs) = cond (eqb (typeOf g) (typeOf f)) 0 (length (linesOf (ro
 
 -- the place where a kind's lines begin
 abbrev pub placeOf : Kind → ℕ
-placeOf f = length code + (length ending + linesUpTo f kinds)
+placeOf f = linesUpTo f kinds
 
 -- lines that begin at a place
 abbrev pub spanAt : ℕ → List Line → Lines
 spanAt p ts = record { from = p; m = length ts; bits = size ts; numbers = need ts }
-
--- those of a code
-unfoldable pub codeAt : Lines
-codeAt = spanAt 0 code
-
--- those of what follows the content
-unfoldable pub endingAt : Lines
-endingAt = spanAt (length code) ending
 
 -- so many of these lines hold n numbers and end with a byte, s bits having gone before
 unfoldable pub linesFor : ℕ → ℕ → List Line → ℕ

@@ -4,83 +4,64 @@ mod rows;
 ghost use mathlib.Core.Path.{_≡_};
 ghost use lib.ListN.{getD};
 ghost use Rattle.format.specs.Format.{octets};
-ghost use Rattle.packet.specs.InCode.{everyLine, rowAt, codeAt, endingAt};
+ghost use Rattle.packet.specs.InCode.{everyLine, rowAt};
 ghost use Rattle.packet.specs.Reading.{countSize, sizesOf, isUnknown, hasEntries};
 ghost use Rattle.packet.specs.Writing.{notWritten};
 use format::Line;
 use packet::Counting;
 use packet::Kind;
-use packet::Lines;
 use packet::RowLines;
 use packet::Sizes;
 
-// Every line of the table: a code's, those of what follows the content, and each row's, kind by kind.
+// Every line of the table of contents, kind by kind.
 pub fn line_at(i: usize) -> Line
     ensures { λ r. ⌜ r ≡ getD everyLine i (octets 0) ⌝ }
 {
     match i {
-        0 => rows::a_ones(4, 15),
-        1 => rows::a_digits(23),
-        2 => rows::an_any(32, 4294967295),
-        3 => rows::a_digits(12),
-        4 => rows::an_octets(64),
         // Type 0, table 3.
-        5 => rows::a_num(8, 1, 255),
-        6 => rows::an_any(8, 255),
-        7 => rows::a_digits(6),
+        0 => rows::a_num(8, 1, 255),
+        1 => rows::an_any(8, 255),
+        2 => rows::a_digits(6),
         // Type 1, table 4.
-        8 => rows::an_octets(1),
-        9 => rows::a_ones(4, 15),
-        10 => rows::a_digits(23),
+        3 => rows::an_octets(1),
+        4 => rows::a_ones(4, 15),
+        5 => rows::a_digits(23),
         // Type 2, table 5.
-        11 => rows::a_num(8, 0, 1),
-        12 => rows::an_any(16, 65535),
+        6 => rows::a_num(8, 0, 1),
+        7 => rows::an_any(16, 65535),
         // Type 3, table 6.
-        13 => rows::an_any(16, 65535),
-        14 => rows::a_num(8, 1, 12),
-        15 => rows::a_num(8, 1, 31),
-        16 => rows::a_num(8, 0, 23),
-        17 => rows::a_num(8, 0, 59),
-        18 => rows::a_num(8, 0, 59),
+        8 => rows::an_any(16, 65535),
+        9 => rows::a_num(8, 1, 12),
+        10 => rows::a_num(8, 1, 31),
+        11 => rows::a_num(8, 0, 23),
+        12 => rows::a_num(8, 0, 59),
+        13 => rows::a_num(8, 0, 59),
         // Type 12, table 13.
-        19 => rows::an_only(2, 1),
-        20 => rows::a_num(2, 1, 2),
-        21 => rows::a_ones(4, 15),
-        22 => rows::a_digits(6),
+        14 => rows::an_only(2, 1),
+        15 => rows::a_num(2, 1, 2),
+        16 => rows::a_ones(4, 15),
+        17 => rows::a_digits(6),
         // Type 13, table 14.
-        23 => rows::an_only(2, 1),
-        24 => rows::a_ones(6, 63),
+        18 => rows::an_only(2, 1),
+        19 => rows::a_ones(6, 63),
         // Type 14, table 15.
-        25 => rows::an_only(4, 1),
-        26 => rows::a_num(4, 1, 2),
-        27 => rows::a_ones(4, 15),
-        28 => rows::a_digits(35),
+        20 => rows::an_only(4, 1),
+        21 => rows::a_num(4, 1, 2),
+        22 => rows::a_ones(4, 15),
+        23 => rows::a_digits(35),
         // Type 15, table 16.
-        29 => rows::a_num(4, 1, 3),
-        30 => rows::a_num(4, 0, 4),
-        31 => rows::a_ones(4, 15),
-        32 => rows::a_digits(35),
-        33 => rows::an_octets(1),
+        24 => rows::a_num(4, 1, 3),
+        25 => rows::a_num(4, 0, 4),
+        26 => rows::a_ones(4, 15),
+        27 => rows::a_digits(35),
+        28 => rows::an_octets(1),
         // Type 21, table 18.
-        34 => rows::an_any(8, 255),
-        35 => rows::a_ones(8, 255),
+        29 => rows::an_any(8, 255),
+        30 => rows::a_ones(8, 255),
         // Types 4 to 8, 11, 22 to 24, and 16, which old shelves still hold: bytes as they are.
-        36 => rows::an_octets(1),
+        31 => rows::an_octets(1),
         _ => rows::an_octets(0),
     }
-}
-
-// A resource code, and what follows the content.
-pub fn code_lines() -> Lines
-    ensures { λ r. ⌜ r ≡ codeAt ⌝ }
-{
-    rows::span(0, 2, 96, 23)
-}
-
-pub fn ending_lines() -> Lines
-    ensures { λ r. ⌜ r ≡ endingAt ⌝ }
-{
-    rows::span(2, 3, 592, 77)
 }
 
 // The row of a kind in the table of contents: how many lines hold the content's own numbers, and where its
@@ -92,43 +73,43 @@ pub fn row_of(f: Kind) -> RowLines
         Kind::Frequencies => rows::a_row(
             Counting::Counted,
             0,
-            rows::span(5, 0, 0, 0),
-            rows::span(5, 3, 40, 8),
-            rows::span(8, 0, 0, 0),
+            rows::span(0, 0, 0, 0),
+            rows::span(0, 3, 40, 8),
+            rows::span(3, 0, 0, 0),
         ),
         Kind::Address => rows::a_row(
             Counting::Counted,
             0,
-            rows::span(8, 0, 0, 0),
-            rows::span(8, 1, 8, 1),
-            rows::span(9, 2, 96, 23),
+            rows::span(3, 0, 0, 0),
+            rows::span(3, 1, 8, 1),
+            rows::span(4, 2, 96, 23),
         ),
-        Kind::Keep => rows::fixed_row(2, 11, 2, 24, 2),
-        Kind::Clock => rows::fixed_row(6, 13, 6, 56, 6),
-        Kind::Reset => rows::fixed_row(3, 19, 4, 32, 7),
-        Kind::Factory => rows::fixed_row(0, 23, 2, 8, 0),
-        Kind::Drill => rows::fixed_row(2, 25, 4, 152, 36),
+        Kind::Keep => rows::fixed_row(2, 6, 2, 24, 2),
+        Kind::Clock => rows::fixed_row(6, 8, 6, 56, 6),
+        Kind::Reset => rows::fixed_row(3, 14, 4, 32, 7),
+        Kind::Factory => rows::fixed_row(0, 18, 2, 8, 0),
+        Kind::Drill => rows::fixed_row(2, 20, 4, 152, 36),
         Kind::Text => rows::a_row(
             Counting::Counted,
             2,
-            rows::span(29, 4, 152, 37),
-            rows::span(33, 1, 8, 1),
-            rows::span(34, 0, 0, 0),
+            rows::span(24, 4, 152, 37),
+            rows::span(28, 1, 8, 1),
+            rows::span(29, 0, 0, 0),
         ),
-        Kind::Hold => rows::fixed_row(1, 34, 2, 16, 1),
+        Kind::Hold => rows::fixed_row(1, 29, 2, 16, 1),
         Kind::Raw => rows::a_row(
             Counting::Raw,
             0,
-            rows::span(36, 0, 0, 0),
-            rows::span(36, 1, 8, 1),
-            rows::span(37, 0, 0, 0),
+            rows::span(31, 0, 0, 0),
+            rows::span(31, 1, 8, 1),
+            rows::span(32, 0, 0, 0),
         ),
         Kind::Unknown => rows::a_row(
             Counting::Unknown,
             0,
-            rows::span(37, 0, 0, 0),
-            rows::span(37, 0, 0, 0),
-            rows::span(37, 0, 0, 0),
+            rows::span(32, 0, 0, 0),
+            rows::span(32, 0, 0, 0),
+            rows::span(32, 0, 0, 0),
         ),
     }
 }
