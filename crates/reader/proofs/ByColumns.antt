@@ -1,6 +1,6 @@
 -- Lines taken by columns, a line in all of its rows and then the next: what a turn adds, and where the line stands. Assumes nothing.
 use mathlib.Core.Path.{_≡_, refl, sym, ap, ap₂, _∙_}
-use mathlib.Core.Bool.{Bool, true, false, cond, _&&_}
+use mathlib.Core.Bool.{Bool, true, cond, _&&_, and-true}
 use mathlib.Core.List.{List, [], _∷_, _++_, append-nil}
 use Prim.Native.Nat.{ℕ, zero, suc, _+_, _*_, _%_, _<_, _≤_}
 use native.Mathlib.Nat.{add-zero, zero-mul}
@@ -146,9 +146,5 @@ codes-due l n x y u v r ex ey ju jv er =
     ∙ conds a 25 n (λ (k : ℕ). inside 0 9 (run l (28 + k * 96) 23 4)) ∙ ap (λ (z : Bool). cond (eqb 25 a) z true) (sym ey)))
     er
   where
-    and-true : (z : Bool) → (z && true) ≡ z
-    and-true true = refl
-    and-true false = refl
-
     conds : (a m n : ℕ) (f : ℕ → Bool) → every n (λ (k : ℕ). cond (eqb m a) (f k) true) ≡ cond (eqb m a) (every n f) true
     conds a m n f = by-test (eqb m a) (λ z. every-same n _ _ (λ k h. if-yes (f k) true z) ∙ sym (if-yes (every n f) true z)) (λ z. every-true n _ (λ k h. if-no (f k) true z) ∙ sym (if-no (every n f) true z))

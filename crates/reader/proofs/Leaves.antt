@@ -1,6 +1,6 @@
 -- The loops over half bytes, bytes and rows: a turn of each, and flags that a test puts down. Assumes nothing.
 use mathlib.Core.Path.{_≡_, refl, sym, ap, ap₂, _∙_}
-use mathlib.Core.Bool.{Bool, true, false, cond, _&&_}
+use mathlib.Core.Bool.{Bool, true, false, cond, _&&_, and-true}
 use mathlib.Core.Logic.{_⊎_, ⊎-elim}
 use mathlib.Core.List.{List, [], _∷_, _++_, append-nil}
 use Prim.Native.Nat.{ℕ, zero, suc, _+_, _-_, _*_, _/_, _%_, _<_, _≤_}
@@ -61,10 +61,6 @@ pairs-judged b all g h l k m j x i s e f u v =
 pub flag-done : (l : List ℕ) (all g : Bool) (lo hi q n w j : ℕ) → n ≤ j → all ≡ (g && inside lo hi (run l q (n - j) w)) → g ≡ all
 unfolding inside
 flag-done l all g lo hi q n w j h e = sym (e ∙ ap (λ (r : List ℕ). g && inside lo hi r) (run-done l q n w j h) ∙ and-true g)
-  where
-    and-true : (x : Bool) → (x && true) ≡ x
-    and-true true = refl
-    and-true false = refl
 
 -- ---- a row more
 pub next-row : (j w : ℕ) → (j + 1) * w ≡ j * w + w

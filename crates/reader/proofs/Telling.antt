@@ -1,6 +1,6 @@
 -- A packet whose sizes are right: what its parts ask, what they are due together, and what it says. Assumes nothing.
 use mathlib.Core.Path.{_≡_, refl, sym, ap, ap₂, subst, _∙_}
-use mathlib.Core.Bool.{Bool, true, false, not, cond, _&&_}
+use mathlib.Core.Bool.{Bool, true, false, not, cond, _&&_, and-true}
 use mathlib.Core.List.{List, []}
 use Prim.Native.Nat.{ℕ, zero, suc, _+_, _-_, _*_, _<_, _≤_}
 use native.Mathlib.Omega.{arith}
@@ -58,10 +58,6 @@ ending-due l e good g = judged-same (passing (digits 12) good) _ _ same (by-test
     same k a =
         let no : eqb 0 k ≡ false = ne-eqb 0 k (λ x. asked-some k a (sym x)) in
         rw (no, g) (sym (and-true _))
-      where
-        and-true : (z : Bool) → (z && true) ≡ z
-        and-true true = refl
-        and-true false = refl
 
 module _ (f : Kind) (s : RowLines) (z : Sizes) (n k : ℕ) (b codes entries : List ℕ) (h : Right f s z n k b codes entries) where
   S : whole.Sized b

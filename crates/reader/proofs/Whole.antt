@@ -1,7 +1,7 @@
 -- The tests of a whole packet, part by part. Assumes nothing.
 use mathlib.Core.Path.{_≡_, refl, sym, ap, _∙_}
 use mathlib.Core.List.{List, [], _++_}
-use mathlib.Core.Bool.{Bool, true, false, not, _&&_, cond}
+use mathlib.Core.Bool.{Bool, true, false, not, _&&_, cond, and-true}
 use Prim.Native.Nat.{ℕ, _+_, _-_, _*_, _/_, _≤_, _<_}
 use native.Mathlib.Nat.{le-trans, mul-le-mul-left}
 use native.Mathlib.Omega.{arith}
@@ -105,11 +105,7 @@ packet-parts a b h e =
     (shuffle (fine a (times n code) (decode (times n code) (bits b) 24)) (fine a K (decode K (bits b) (contentAt b))) (fine a ending (decode ending (bits b) (contentAt b + 8 * contentSize b))))
   where
     shuffle : (x y z : Bool) → (x && (y && z)) ≡ ((x && z) && y)
-    shuffle true true z = and-true z
-      where
-        and-true : (z : Bool) → z ≡ (z && true)
-        and-true true = refl
-        and-true false = refl
+    shuffle true true z = sym (and-true z)
     shuffle true false true = refl
     shuffle true false false = refl
     shuffle false y z = refl

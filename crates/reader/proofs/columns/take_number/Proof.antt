@@ -3,7 +3,7 @@ use mathlib.Core.Path.{_≡_, refl, sym, ap, _∙_}
 use native.Mathlib.Omega.{arith}
 use denote.Ref.{now}
 use mathlib.Core.List.{List, [], _∷_}
-use mathlib.Core.Bool.{Bool, true, false, cond, _&&_}
+use mathlib.Core.Bool.{false, cond, and-true}
 use Prim.Native.Nat.{ℕ, _≤_, _<_}
 use lib.Seq.{sets}
 use lib.Dec.{leb}
@@ -30,10 +30,6 @@ low lo hi x h = rw (lt-leb lo x h)
 high : (lo hi x : ℕ) → lo ≤ x → leb x hi ≡ inside lo hi (x ∷ [])
 unfolding inside
 high lo hi x h = rw (le-leb lo x h) (sym (and-true (leb x hi)))
-  where
-    and-true : (y : Bool) → (y && true) ≡ y
-    and-true true = refl
-    and-true false = refl
 
 field-requires : tie.Need-field-requires
 field-requires c κs = search needs
