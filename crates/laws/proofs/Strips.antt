@@ -1,7 +1,7 @@
 -- Pieces laid over a list at one distance: two that lie beside each other are one, and pieces that fill the distance are written at once. Assumes nothing.
 use mathlib.Core.Path.{_≡_, refl, sym, ap, ap₂, _∙_}
 use mathlib.Core.List.{List, [], _∷_, _++_, append-nil, append-assoc}
-use mathlib.Core.Bool.{Bool, true, false, _&&_}
+use mathlib.Core.Bool.{Bool, true, false, _&&_, and-assoc}
 use Prim.Native.Nat.{ℕ, zero, suc, _+_, _*_, _<_, _≤_}
 use native.Mathlib.Nat.{mul-le-mul-right, zero-mul, suc-mul}
 use native.Mathlib.Omega.{arith}
@@ -81,10 +81,6 @@ module _ {A : Type 0} where
       ∙ sym (sets-append (joined n f) (f n) l i)
 
 -- ---- tests of every number
-and-assoc : (a b c : Bool) → ((a && b) && c) ≡ (a && (b && c))
-and-assoc true b c = refl
-and-assoc false b c = refl
-
 and-four : (a b c d : Bool) → ((a && b) && (c && d)) ≡ ((a && c) && (b && d))
 and-four true true c d = refl
 and-four true false true d = refl

@@ -1,7 +1,7 @@
 -- Where the parts of a command stand among its bits: its own numbers, its codes, and the lines that an answer is about. Assumes nothing.
 use mathlib.Core.Path.{_≡_, refl, sym, ap, _∙_}
 use mathlib.Core.List.{List, [], _++_, append-nil}
-use mathlib.Core.Bool.{Bool, true, false, not, _&&_, and-true}
+use mathlib.Core.Bool.{Bool, true, false, not, _&&_, and-true, and-assoc}
 use Prim.Native.Nat.{ℕ, suc, _+_, _*_, _-_, _≤_, _<_}
 use native.Mathlib.Omega.{arith}
 use lib.ListN.{length, take, drop, getD, length-replicate}
@@ -17,7 +17,7 @@ use Rattle.format.specs.declared.Line.{Line}
 use Rattle.format.specs.Format.{times, size, need, decode, fill, flat, inside, fine, unmet}
 use Rattle.format.specs.Reach.{fieldsRead}
 use Rattle.format.proofs.Leaves.{reached}
-use Rattle.format.proofs.Tables.{flat-append, length-flat, and-assoc}
+use Rattle.format.proofs.Tables.{flat-append, length-flat}
 use Rattle.packet.specs.declared.Content.the-variants as content
 use Rattle.packet.specs.Table.{code, contentLines, countIn}
 use Rattle.packet.specs.Content.{noSuchDay}

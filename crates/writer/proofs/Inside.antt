@@ -1,13 +1,12 @@
 -- Loops that test numbers against ranges: of a list, of a line, of lines. Assumes nothing.
 use mathlib.Core.Path.{_≡_, refl, sym, _∙_, ap}
-use mathlib.Core.Bool.{and-true, Bool, true, false, _&&_, cond}
+use mathlib.Core.Bool.{and-true, and-assoc, Bool, true, false, _&&_, cond}
 use mathlib.Core.List.{List, [], _∷_}
 use Prim.Native.Nat.{ℕ, zero, suc, _+_, _<_, _≤_, _-_}
 use native.Mathlib.Numerals.{add-one}
 use native.Mathlib.Decide.{decLt}
 use native.Mathlib.Omega.{arith}
 use Rattle.laws.proofs.Cases.{and-yes, and-no}
-use Rattle.format.proofs.Tables.{and-assoc}
 use lib.ListN.{length, getD, take, drop, replicate, length-drop, drop-of-length-le}
 use lib.Dec.{leb}
 use lib.Seq.{drop-cons, drop-drop, length-take-le, getD-take, getD-drop}
