@@ -14,6 +14,7 @@ use borrow.Author.Tests.{le-leb, lt-leb, leb-true, eq-eqb, ne-eqb, eqb-true, eqb
 use Rattle.laws.specs.Bits.{at, run, bits}
 use Rattle.laws.specs.Strips.{strips, every}
 use Rattle.laws.proofs.Cases.{if-yes, if-no, and-yes, and-no, and-both}
+use Rattle.laws.proofs.ByteFields.{at-parts}
 use Rattle.laws.proofs.Elements.{by-test}
 use Rattle.laws.proofs.Strips.{strips-same, every-same}
 use Rattle.laws.proofs.Writes.{from-front}
@@ -200,3 +201,19 @@ module _ (t : Line) (l : List ℕ) (p q c w : ℕ) (eq : q ≡ p) (ec : c ≡ t 
 
   pub line-tests : (lo hi n s : ℕ) → lo ≡ t .lo → hi ≡ t .hi → every n (λ (k : ℕ). inside lo hi (run l (q + k * s) c w)) ≡ every n (λ (k : ℕ). inside (t .lo) (t .hi) (run l (p + k * s) (t .count) (t .width)))
   line-tests lo hi n s el eh = every-same n _ _ (λ k h. rw (eq, ec, ew, el, eh))
+
+-- four bytes are a number of 32 bits
+pub four-bytes : (b : List ℕ) (k w x y z : ℕ) → w < 256 → x < 256 → y < 256 → z < 256 → w ≡ getD b k 0 → x ≡ getD b (k + 1) 0 → y ≡ getD b (k + 2) 0 → z ≡ getD b (k + 3) 0
+    → w * 16777216 + x * 65536 + y * 256 + z ≡ at (bits b) (8 * k) 32
+four-bytes b k w x y z hw hx hy hz ew ex ey ez =
+    let l = bits b in
+    let p = 8 * k in
+    let place : (i q : ℕ) → q ≡ (k + i) * 8 → at l ((k + i) * 8) 8 ≡ at l q 8 = λ i q e. ap (λ (j : ℕ). at l j 8) (sym e) in
+    let a : w ≡ at l p 8 = byte-at b k w hw ew ∙ ap (λ (j : ℕ). at l j 8) (omega arith) in
+    let c : x ≡ at l (p + 8) 8 = byte-at b (k + 1) x hx ex ∙ place 1 (p + 8) (omega arith) in
+    let d : y ≡ at l (p + 16) 8 = byte-at b (k + 2) y hy ey ∙ place 2 (p + 16) (omega arith) in
+    let e : z ≡ at l (p + 24) 8 = byte-at b (k + 3) z hz ez ∙ place 3 (p + 24) (omega arith) in
+    let two : at l p 16 ≡ at l p 8 * 256 + at l (p + 8) 8 = at-parts l p 8 8 in
+    let three : at l p 24 ≡ at l p 16 * 256 + at l (p + 16) 8 = at-parts l p 16 8 in
+    let four : at l p 32 ≡ at l p 24 * 256 + at l (p + 24) 8 = at-parts l p 24 8 in
+    omega (arith, a, c, d, e, two, three, four)
