@@ -1,7 +1,5 @@
 -- `writer::write` meets its contract. Assumes nothing.
-use mathlib.Core.Path.{_≡_}
 use native.Mathlib.Omega.{arith}
-use lib.ListN.{length}
 use Rattle.writer.proofs.Written.{refused, ready, done}
 use borrow.Author.Needs.{needs}
 use Rattle.writer.proofs.write.Statement.{statement}
@@ -20,11 +18,9 @@ same-length c = search needs
 
 returns : tie.Need-returns
 returns c =
+    let g = c .before .before .before .before .before .before .before .before .before .before .good in
     let x = c .before .before .before .before .before .before .before .before .before .before .args in
-    let d : length (x .fields .digits) ≡ 35 = search (needs, c .before .before .before .before .before .before .before .before .before .before .good) in
-    let lc : length (x .fields .certificate) ≡ 12 = search (needs, c .before .before .before .before .before .before .before .before .before .before .good) in
-    let ls : length (x .fields .signature) ≡ 64 = search (needs, c .before .before .before .before .before .before .before .before .before .before .good) in
-    (c .before .before .before .before .before .before .judged .ensures, done (x .fields) (x .codes .now) (x .body .now) (x .out .now) _ (c .before .before .before .before .before .before .judged .ensures) (c .before .before .before .before .if1 .taken) d lc ls _ (λ i. omega (arith, c .slice-known2 .given i)) (λ i. omega (arith, c .before .before .before .before .before .before .before .slice-known .given i)) (c .before .before .put-packet .ensures))
+    (c .before .before .before .before .before .before .judged .ensures, done (x .fields) (x .codes .now) (x .body .now) (x .out .now) _ (c .before .before .before .before .before .before .judged .ensures) (c .before .before .before .before .if1 .taken) (search (needs, g)) (search (needs, g)) (search (needs, g)) _ (λ i. omega (arith, c .slice-known2 .given i)) (λ i. omega (arith, c .before .before .before .before .before .before .before .slice-known .given i)) (c .before .before .put-packet .ensures))
 
 returns-2 : tie.Need-returns-2
 returns-2 c =
