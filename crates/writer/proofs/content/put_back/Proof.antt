@@ -1,8 +1,7 @@
 -- `writer::content::put_back` meets its contract. Assumes nothing.
-use mathlib.Core.Path.{_≡_, sym, ap, _∙_}
+use mathlib.Core.Path.{sym, ap, _∙_}
 use Prim.Native.Nat.{_≤_}
 use native.Mathlib.Omega.{arith}
-use lib.ListN.{length}
 use Rattle.format.specs.Format.{size}
 use Rattle.packet.specs.Content.{kindFor}
 use Rattle.packet.proofs.Good.{good}
@@ -28,8 +27,7 @@ put-rows-requires : tie.Need-put-rows-requires
 put-rows-requires c κs =
     let a = c .before .before .before .before .before .args in
     let h = c .before .before .before .before .before .pre in
-    let d : length (a .t5) ≡ 35 = search needs in
-    (back-rows (a .c) (a .s) (h .0) (a .t5) (a .p) d (h .1), ap size (stands (kindFor (a .c)) (h .0) .last .lines) ∙ sym (told (kindFor (a .c)) (h .0) .last-bits))
+    (back-rows (a .c) (a .s) (h .0) (a .digits .now) (a .p) (h .2) (h .1), ap size (stands (kindFor (a .c)) (h .0) .last .lines) ∙ sym (told (kindFor (a .c)) (h .0) .last-bits))
 
 same-length : tie.Need-same-length
 same-length c = search needs
@@ -37,7 +35,7 @@ same-length c = search needs
 returns : tie.Need-returns
 returns c =
     let a = c .before .before .before .before .before .before .before .before .args in
-    back-put (a .c) (a .s) (c .before .before .before .before .before .before .before .before .pre .0) (a .t5) (a .out .now) (c .before .before .put-rows .last .0) (a .p) (c .before .before .put-rows .result) (c .before .before .put-rows .ensures)
+    back-put (a .c) (a .s) (c .before .before .before .before .before .before .before .before .pre .0) (a .digits .now) (a .out .now) (c .before .before .put-rows .last .0) (a .p) (c .before .before .put-rows .result) (c .before .before .put-rows .ensures)
 
 pub put-back-spec : {M : Type 1} → statement M
 put-back-spec =
