@@ -114,12 +114,15 @@ fn put_body(out: &mut [u8], p: usize, c: Content, s: RowLines, k: usize, body: &
     }
 }
 
-// What stands behind it.
+// What stands behind it, nothing in most contents.
 fn put_back(out: &mut [u8], p: usize, c: Content, s: RowLines, digits: &[u8]) -> usize
     requires { ⌜ (s ≡ rowAt (kindFor c)) × (p < 30000) × (length (now digits) ≡ 35) ⌝ }
     ensures { λ r. ⌜ After (now (out .entry)) (now (out .exit)) p (backBits c (now (digits .entry))) r (size (rowFor c .after)) ⌝ }
 {
     let after = s.after;
+    if after.m == 0 {
+        return p;
+    }
     let w = after.numbers;
     columns::put_rows(out, p, after, 1, after.bits, w, &digits[0..w])
 }
