@@ -1,6 +1,6 @@
 -- The loops over half bytes, bytes and rows: a turn of each, and flags that a test puts down. Assumes nothing.
 use mathlib.Core.Path.{_≡_, refl, sym, ap, ap₂, _∙_}
-use mathlib.Core.Bool.{Bool, true, false, cond, _&&_, and-true}
+use mathlib.Core.Bool.{Bool, true, false, cond, _&&_, and-true, and-false}
 use mathlib.Core.Logic.{_⊎_, ⊎-elim}
 use mathlib.Core.List.{List, [], _∷_, _++_, append-nil}
 use Prim.Native.Nat.{ℕ, zero, suc, _+_, _-_, _*_, _/_, _%_, _<_, _≤_}
@@ -10,7 +10,7 @@ use native.Mathlib.Omega.{arith}
 use lib.ListN.{length, getD, getD-replicate, set, drop-of-length-le}
 use lib.Seq.{sets}
 use lib.Dec.{leb, eqb}
-use borrow.Author.Tests.{le-leb, lt-leb, leb-true, eq-eqb, ne-eqb, eqb-true, eqb-false}
+use borrow.Author.Tests.{le-leb, lt-leb, leb-true, leb-false, eq-eqb, ne-eqb, eqb-true, eqb-false}
 use Rattle.laws.specs.Bits.{at, run, bits}
 use Rattle.laws.specs.Strips.{strips, every}
 use Rattle.laws.proofs.Cases.{if-yes, if-no, and-yes, and-no, and-both}
@@ -44,20 +44,31 @@ both-ends g h l lo hi x e f = f ∙ ap (λ (y : Bool). y && leb x hi) e ∙ turn
     turned false a b = refl
 
 -- ---- the two halves of a byte
-pub pairs-judged : (b : List ℕ) (all g h l : Bool) (k m j x : ℕ) → j < m → x < 256 → x ≡ getD b (k + j) 0
-    → all ≡ (g && inside 0 9 (run (bits b) ((k + j) * 8) (2 * m - 2 * j) 4)) → h ≡ (g && leb (x / 16) 9) → l ≡ (h && leb (x % 16) 9)
-    → all ≡ (l && inside 0 9 (run (bits b) ((k + (j + 1)) * 8) (2 * m - 2 * (j + 1)) 4))
+first-digit : (x : ℕ) (xs : List ℕ) → inside 0 9 (x ∷ xs) ≡ (leb x 9 && inside 0 9 xs)
 unfolding inside
-pairs-judged b all g h l k m j x i s e f u v =
-    let r = inside 0 9 (run (bits b) ((k + (j + 1)) * 8) (2 * m - 2 * (j + 1)) 4) in
-    f ∙ ap (λ (y : List ℕ). g && inside 0 9 y) (pairs-step b k m j x i s e)
-    ∙ rw (le-leb 0 (x / 16) (omega arith), le-leb 0 (x % 16) (omega arith)) (turned g (leb (x / 16) 9) (leb (x % 16) 9) r)
-    ∙ ap (λ (y : Bool). y && r) (sym (v ∙ ap (λ (y : Bool). y && leb (x % 16) 9) u))
-  where
-    turned : (g a b c : Bool) → (g && (a && (b && c))) ≡ (((g && a) && b) && c)
-    turned true true b c = refl
-    turned true false b c = refl
-    turned false a b c = refl
+first-digit x xs = rw (le-leb 0 x (omega arith))
+
+-- a half byte above 9 counts one more, a digit none
+half-counted : (g u : ℕ) (r : List ℕ) → u < 16 → (eqb g 0 && inside 0 9 (u ∷ r)) ≡ (eqb (g + (u + 6) / 16) 0 && inside 0 9 r)
+half-counted g u r h =
+    by-test (leb u 9)
+    (λ t.
+    let z : g ≡ g + (u + 6) / 16 = omega (arith, leb-true u 9 t) in
+    ap₂ (λ (n : ℕ) (y : Bool). eqb n 0 && y) z (first-digit u r ∙ and-yes (inside 0 9 r) t))
+    (λ t.
+    ap (λ (y : Bool). eqb g 0 && y) (first-digit u r ∙ and-no (inside 0 9 r) t)
+    ∙ and-false (eqb g 0)
+    ∙ sym (and-no (inside 0 9 r) (ne-eqb (g + (u + 6) / 16) 0 (λ z. omega (arith, leb-false u 9 t, z)))))
+
+pub pairs-counted : (b : List ℕ) (all : Bool) (g k m j x : ℕ) → j < m → x < 256 → x ≡ getD b (k + j) 0 → all ≡ (eqb g 0 && inside 0 9 (run (bits b) ((k + j) * 8) (2 * m - 2 * j) 4))
+    → all ≡ (eqb (g + ((x / 16 + 6) / 16 + (x % 16 + 6) / 16)) 0 && inside 0 9 (run (bits b) ((k + (j + 1)) * 8) (2 * m - 2 * (j + 1)) 4))
+pairs-counted b all g k m j x i s e f =
+    let r = run (bits b) ((k + (j + 1)) * 8) (2 * m - 2 * (j + 1)) 4 in
+    let z : g + (x / 16 + 6) / 16 + (x % 16 + 6) / 16 ≡ g + ((x / 16 + 6) / 16 + (x % 16 + 6) / 16) = omega arith in
+    f ∙ ap (λ (y : List ℕ). eqb g 0 && inside 0 9 y) (pairs-step b k m j x i s e)
+    ∙ half-counted g (x / 16) (x % 16 ∷ r) (omega arith)
+    ∙ half-counted (g + (x / 16 + 6) / 16) (x % 16) r (omega arith)
+    ∙ ap (λ (n : ℕ). eqb n 0 && inside 0 9 r) z
 
 pub flag-done : (l : List ℕ) (all g : Bool) (lo hi q n w j : ℕ) → n ≤ j → all ≡ (g && inside lo hi (run l q (n - j) w)) → g ≡ all
 unfolding inside
@@ -92,10 +103,6 @@ digits-even l e c h i =
     let p : (e - c / 2) * 8 ≡ e * 8 - c * 4 = omega arith in
     let n : 2 * (c / 2) ≡ c = omega arith in
     ap₂ (λ (u v : ℕ). run l u v 4) p n
-
-first-digit : (x : ℕ) (xs : List ℕ) → inside 0 9 (x ∷ xs) ≡ (leb x 9 && inside 0 9 xs)
-unfolding inside
-first-digit x xs = rw (le-leb 0 x (omega arith))
 
 module _ (b : List ℕ) (e c x : ℕ) (h : c ≤ 2 * e) (i : c % 2 ≡ 1) (g : x ≡ getD b (e - c / 2 - 1) 0) where
   digits-odd : x % 16 ∷ run (bits b) ((e - c / 2) * 8) (2 * (c / 2)) 4 ≡ run (bits b) (e * 8 - c * 4) c 4

@@ -54,7 +54,7 @@ slice-aggregate-take-digits c = sym (length-zeros 12 (c .before .zeros12 .result
 take-digits-requires : tie.Need-take-digits-requires
 take-digits-requires c κs =
     let a = c .before .before .before .before .before .before .before .before .before .before .before .before .before .before .before .before .before .args in
-    (omega (arith, telling.codes-there (a .f) (a .s) (a .z) (a .n) (a .k) (now (a .b)) (c .before .before .before .before .before .before .before .before .before .before .before .before .before .before .before .before .before .pre .0)), omega arith, omega (arith, length-zeros 12 (c .before .zeros12 .result) (c .before .zeros12 .ensures)))
+    (omega (arith, telling.codes-there (a .f) (a .s) (a .z) (a .n) (a .k) (now (a .b)) (c .before .before .before .before .before .before .before .before .before .before .before .before .before .before .before .before .before .pre .0)), omega arith, omega (arith, length-zeros 12 (c .before .zeros12 .result) (c .before .zeros12 .ensures)), omega (arith, telling.most (a .f) (a .s) (a .z) (a .n) (a .k) (now (a .b)) (c .before .before .before .before .before .before .before .before .before .before .before .before .before .before .before .before .before .pre .0)))
 
 no-such-day-requires : tie.Need-no-such-day-requires
 no-such-day-requires c κs = search needs
