@@ -1,15 +1,18 @@
 -- Half bytes, two to a byte, and whole bytes: how the loops over them go on and end. Assumes nothing.
 use mathlib.Core.Path.{_≡_, refl, sym, ap, ap₂, _∙_}
-use mathlib.Core.List.{List, _∷_, _++_, append-nil}
+use mathlib.Core.Bool.{_&&_, and-assoc}
+use mathlib.Core.List.{List, [], _∷_, _++_, append-nil}
 use Prim.Native.Nat.{ℕ, suc, _+_, _*_, _/_, _%_, _-_, _<_}
 use native.Mathlib.Omega.{arith}
 use lib.ListN.{length, getD, set, drop, drop-of-length-le}
 use lib.Seq.{sets}
+use lib.Dec.{leb}
 use Rattle.laws.specs.Bits.{at, bitsOf, run, spread, bits}
 use Rattle.laws.proofs.Bits.{length-bitsOf, at-bits, under-bitsOf}
 use Rattle.laws.proofs.ByteFields.{at-byte}
 use Rattle.laws.proofs.Words.{bits-join}
 use Rattle.laws.proofs.Writes.{from-front, sets-append}
+use Rattle.format.specs.Format.{inside}
 use Rattle.format.proofs.Leaves.{run-step, store-turn, spread-turn}
 use Rattle.format.proofs.Parts.{bits-low}
 use Rattle.format.proofs.Within.{field-put}
@@ -31,6 +34,12 @@ low-half b k x e = omega (arith, e, at-byte b k 4 4 (omega arith))
 -- half bytes that end at a byte's edge: where their number is odd one by itself, then two a byte
 pub odd-place : (p n : ℕ) → (p + 4 * n) % 8 ≡ 0 → p + n % 2 * 4 ≡ (p / 8 + n % 2) * 8
 odd-place p n h = omega arith
+
+-- numbers behind each other are within a range
+pub inside-append : (lo hi : ℕ) (xs ys : List ℕ) → inside lo hi (xs ++ ys) ≡ (inside lo hi xs && inside lo hi ys)
+unfolding inside
+inside-append lo hi [] ys = refl
+inside-append lo hi (x ∷ xs) ys = rw (inside-append lo hi xs ys) (sym (and-assoc (leb lo x && leb x hi) (inside lo hi xs) (inside lo hi ys)))
 
 -- ---- the two halves of byte k + j, read
 pub pairs-step : (b : List ℕ) (k m j x : ℕ) → j < m → x < 256 → x ≡ getD b (k + j) 0
