@@ -62,7 +62,9 @@ pub extern "C" fn codec_read(
     digits: &mut [u8; 35],
 ) -> PlainTold
     ensures told { λ r. ⌜ r ≡ toldAs (opened (now (packet .entry))) ⌝ }
-    ensures arrays { λ _. ⌜ (now (codes .exit) ≡ opened (now (packet .entry)) .codes) × (now (entries .exit) ≡ opened (now (packet .entry)) .entries) × (now (digits .exit) ≡ opened (now (packet .entry)) .fields .digits) ⌝ }
+    ensures coded { λ _. ⌜ now (codes .exit) ≡ opened (now (packet .entry)) .codes ⌝ }
+    ensures listed { λ _. ⌜ now (entries .exit) ≡ opened (now (packet .entry)) .entries ⌝ }
+    ensures beside { λ _. ⌜ now (digits .exit) ≡ opened (now (packet .entry)) .fields .digits ⌝ }
 {
     let t = reader::read_to(packet, codes, entries, digits);
     let c = t.content;

@@ -138,7 +138,9 @@ pub fn read_to(
     digits: &mut [u8; 35],
 ) -> Told
     ensures told { λ r. ⌜ r ≡ toldOf (opened (now (packet .entry))) ⌝ }
-    ensures arrays { λ _. ⌜ (now (codes .exit) ≡ opened (now (packet .entry)) .codes) × (now (entries .exit) ≡ opened (now (packet .entry)) .entries) × (now (digits .exit) ≡ opened (now (packet .entry)) .fields .digits) ⌝ }
+    ensures coded { λ _. ⌜ now (codes .exit) ≡ opened (now (packet .entry)) .codes ⌝ }
+    ensures listed { λ _. ⌜ now (entries .exit) ≡ opened (now (packet .entry)) .entries ⌝ }
+    ensures beside { λ _. ⌜ now (digits .exit) ≡ opened (now (packet .entry)) .fields .digits ⌝ }
 {
     *codes = parts::zeros322();
     *entries = parts::zeros272();

@@ -16,6 +16,7 @@ content-told-requires c κs = search needs
 
 returns : tie.Need-returns
 returns c =
+    let r = c .before .before .before .read-to .ensures in
     let t = c .before .before .before .read-to .result in
     let with-content : PlainContent → PlainTold =
     λ p. record { answer = t .answer; fields = record { typenumber = t .typenumber; codes = t .codes; content = p; time = t .time; certificate = t .certificate; signature = t .signature } }
@@ -23,7 +24,7 @@ returns c =
     let of-told : Told → PlainTold =
     λ x. record { answer = x .answer; fields = record { typenumber = x .typenumber; codes = x .codes; content = contentTold (x .content); time = x .time; certificate = x .certificate; signature = x .signature } }
     in
-    (ap with-content (c .before .before .content-told .ensures) ∙ ap of-told (c .before .before .before .read-to .ensures .0), c .before .before .before .read-to .ensures .1)
+    (ap with-content (c .before .before .content-told .ensures) ∙ ap of-told (r .0), r .1)
 
 pub codec-read-spec : {M : Type 1} → statement M
 codec-read-spec = tie.close (tie.spec read-to-requires content-told-requires returns)

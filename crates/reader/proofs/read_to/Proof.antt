@@ -16,7 +16,7 @@ filled-requires : tie.Need-filled-requires
 filled-requires c κs = record { codes-none = c .before .before .before .before .before .zeros322 .ensures; entries-none = c .before .before .before .before .zeros272 .ensures; digits-none = c .before .before .before .zeros35 .ensures }
 
 returns : tie.Need-returns
-returns c = let f = c .filled .ensures in (f .told-is, (f .codes-are, f .entries-are, f .digits-are))
+returns c = let f = c .filled .ensures in (f .told-is, (f .codes-are, (f .entries-are, f .digits-are)))
 
 pub read-to-spec : {M : Type 1} → statement M
 read-to-spec = tie.close (tie.spec zeros322-requires zeros272-requires zeros35-requires filled-requires returns)
