@@ -29,9 +29,20 @@ struct plain_written {
 void plain_read(const uint8_t *packet, size_t n, struct plain_opened *o);
 struct plain_written plain_write(const struct plain_fields *f, const uint8_t *codes, size_t codes_lent, const uint8_t *body, size_t lent, uint8_t *out, size_t room);
 
-/* Ours, from the static library of crates/codec. */
-struct plain_opened codec_read(const uint8_t *packet, size_t n);
-struct plain_written codec_write(struct plain_fields f, const uint8_t *codes, size_t codes_lent, const uint8_t *body, size_t lent, uint8_t *out, size_t room);
+/* Ours, from the static library of crates/codec: fields but for the digits beside the content, which are lent as codes and entries are. */
+struct codec_fields {
+    uint8_t kind;
+    size_t codes;
+    struct plain_content content;
+    uint32_t time;
+    uint8_t certificate[12], signature[64];
+};
+struct codec_told {
+    uint8_t answer;
+    struct codec_fields fields;
+};
+struct codec_told codec_read(const uint8_t *packet, size_t n, uint8_t codes[322], uint8_t entries[272], uint8_t digits[35]);
+struct plain_written codec_write(struct codec_fields f, const uint8_t digits[35], const uint8_t *codes, size_t codes_lent, const uint8_t *body, size_t lent, uint8_t *out, size_t room);
 
 /* bench/packets.c: that both agree, how long each takes, and one of them alone for counting. */
 int packets_agree(void);

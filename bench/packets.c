@@ -2,11 +2,14 @@
 #include "packet.h"
 #include "shared.h"
 
+extern void *memcpy(void *to, const void *from, size_t n);
+
 enum { MOST = 250, CODE_DIGITS = 322, BODY = 2100, TRIES = 40000 };
 
-/* Fields of a type with what is lent for them. */
+/* Fields of a type with what is lent for them, as plain C takes them and as ours does. */
 struct story {
     struct plain_fields f;
+    struct codec_fields mine;
     uint8_t codes[CODE_DIGITS + 23], body[BODY];
     size_t codes_lent, lent;
 };
@@ -64,6 +67,27 @@ static void make_story(struct story *s, unsigned type, size_t n, size_t k)
     s->f.content = c;
 }
 
+/* Ours as plain C has them, and back. */
+static void plainly(struct plain_fields *f, const struct codec_fields *c)
+{
+    f->kind = c->kind;
+    f->codes = c->codes;
+    f->content = c->content;
+    f->time = c->time;
+    memcpy(f->certificate, c->certificate, 12);
+    memcpy(f->signature, c->signature, 64);
+}
+
+static void ours(struct codec_fields *c, const struct plain_fields *f)
+{
+    c->kind = f->kind;
+    c->codes = f->codes;
+    c->content = f->content;
+    c->time = f->time;
+    memcpy(c->certificate, f->certificate, 12);
+    memcpy(c->signature, f->signature, 64);
+}
+
 static int same_fields(const struct plain_fields *a, const struct plain_fields *b)
 {
     const struct plain_content *c = &a->content, *d = &b->content;
@@ -74,8 +98,10 @@ static int same_fields(const struct plain_fields *a, const struct plain_fields *
 
 static unsigned read_alike(const uint8_t *p, size_t n)
 {
-    static struct plain_opened theirs;
-    struct plain_opened mine = codec_read(p, n);
+    static struct plain_opened theirs, mine;
+    struct codec_told told = codec_read(p, n, mine.codes, mine.entries, mine.fields.digits);
+    mine.answer = told.answer;
+    plainly(&mine.fields, &told.fields);
     plain_read(p, n, &theirs);
     if (mine.answer != theirs.answer || !same_fields(&mine.fields, &theirs.fields) || memcmp(mine.codes, theirs.codes, 322) != 0 || memcmp(mine.entries, theirs.entries, 272) != 0)
         differ("a packet read", n);
@@ -87,7 +113,9 @@ static unsigned written_alike(const struct story *s, size_t room, uint8_t *mine,
     static uint8_t theirs[MOST + 10];
     for (size_t i = 0; i < sizeof theirs; i++)
         mine[i] = theirs[i] = (uint8_t)i;
-    struct plain_written a = codec_write(s->f, s->codes, s->codes_lent, s->body, s->lent, mine, room);
+    struct codec_fields f;
+    ours(&f, &s->f);
+    struct plain_written a = codec_write(f, s->f.digits, s->codes, s->codes_lent, s->body, s->lent, mine, room);
     struct plain_written b = plain_write(&s->f, s->codes, s->codes_lent, s->body, s->lent, theirs, room);
     if (a.answer != b.answer || a.length != b.length || memcmp(mine, theirs, sizeof theirs) != 0)
         differ("a packet written", s->f.kind);
@@ -171,25 +199,21 @@ static void make_rows(void)
     }
 }
 
-static size_t told(const struct plain_opened *o)
-{
-    return (size_t)o->answer + o->fields.signature[63] + o->entries[7] + o->fields.digits[3];
-}
-
-/* `way` 0 is ours. The signature changes from turn to turn, and the sum keeps the work from being left out. Both fill a record of the loop's own: one that
-   is given back by value is not copied once more. */
+/* `way` 0 is ours. The signature changes from turn to turn, and the sum keeps the work from being left out. Both fill what is the loop's own: a record
+   that is given back by value is not copied once more. */
 static size_t reading(int way, int row, size_t times)
 {
     size_t sum = 0;
     for (size_t i = 0; i < times; i++) {
         packets[row][lengths[row] - 1] = (uint8_t)i;
         if (way == 0) {
-            const struct plain_opened o = codec_read(packets[row], lengths[row]);
-            sum += told(&o);
+            uint8_t codes[CODE_DIGITS], entries[272], digits[35];
+            const struct codec_told t = codec_read(packets[row], lengths[row], codes, entries, digits);
+            sum += (size_t)t.answer + t.fields.signature[63] + codes[3] + entries[7] + digits[3];
         } else {
             struct plain_opened o;
             plain_read(packets[row], lengths[row], &o);
-            sum += told(&o);
+            sum += (size_t)o.answer + o.fields.signature[63] + o.codes[3] + o.entries[7] + o.fields.digits[3];
         }
     }
     return sum;
@@ -200,9 +224,10 @@ static size_t writing(int way, int row, size_t times)
     static uint8_t out[MOST];
     struct story *s = &stories[row];
     size_t sum = 0;
+    ours(&s->mine, &s->f);
     for (size_t i = 0; i < times; i++) {
-        s->f.signature[63] = (uint8_t)i;
-        struct plain_written w = way == 0 ? codec_write(s->f, s->codes, s->codes_lent, s->body, s->lent, out, MOST)
+        s->f.signature[63] = s->mine.signature[63] = (uint8_t)i;
+        struct plain_written w = way == 0 ? codec_write(s->mine, s->f.digits, s->codes, s->codes_lent, s->body, s->lent, out, MOST)
                                           : plain_write(&s->f, s->codes, s->codes_lent, s->body, s->lent, out, MOST);
         sum += w.answer + w.length + out[w.length - 1];
     }

@@ -4,7 +4,7 @@ import re
 from collections import defaultdict
 from typing import Dict, Iterable, List, Set, Tuple
 
-from sources import ALIAS, IMPORT, KEYWORDS, Name, Source, cited, crates, files, read, read_all, tokens, words
+from sources import ALIAS, IMPORT, KEYWORDS, Name, Source, cited, crates, files, one_name, read, read_all, tokens, words
 
 
 # ---- imports
@@ -73,6 +73,15 @@ def documented() -> Set[str]:
     return found
 
 
+def handed_on(source: Source) -> Iterable[Tuple[Name, Name]]:
+    """The names that a file hands on by `pub use`, each with the name behind it."""
+    for line in source.lines:
+        m = IMPORT.match(line[4:]) if line.startswith("pub use ") else None
+        for entry in m.group(2).split(",") if m else []:
+            first, _, last = entry.strip().partition(" as ")
+            yield (source.module, last or first), (one_name(m.group(1)), first)
+
+
 def reached(sources: List[Source]) -> Set[Name]:
     """All that is cited, directly or not, by code, by an answer of a proof file, or in the documents."""
     listed = documented()
@@ -81,6 +90,8 @@ def reached(sources: List[Source]) -> Set[Name]:
     for s in sources:
         if s.module is None:
             open_ |= s.uses(s.body_tokens())
+        for name, behind in handed_on(s):
+            cites[name].add(behind)
         for i in s.items:
             cites[(s.module, i.name)] |= s.uses(tokens(i.params + "\n" + i.text))
             if i.name in listed or s.path.endswith(("/Proof.antt", "/Examples.antt")):

@@ -3,7 +3,7 @@ ghost use mathlib.Core.Path.{_≡_};
 ghost use lib.ListN.{length};
 ghost use Rattle.packet.specs.Reading.{opened};
 ghost use Rattle.packet.specs.Writing.{written, packetOutput};
-ghost use Rattle.codec.specs.Codec.{toldAs, fieldsTold, openedAs, contentFrom, fieldsFrom, writtenAs};
+ghost use Rattle.codec.specs.Codec.{contentTold, toldAs, contentFrom, fieldsFrom, writtenAs};
 use packet::Content;
 use packet::Fields;
 
@@ -15,23 +15,22 @@ pub struct PlainContent {
     pub count: usize,
 }
 
+// Fields of a packet but for the digits beside its content, which are lent.
 #[repr(C)]
 pub struct PlainFields {
     pub typenumber: u8,
     pub codes: usize,
     pub content: PlainContent,
-    pub digits: [u8; 35],
     pub time: u32,
     pub certificate: [u8; 12],
     pub signature: [u8; 64],
 }
 
+// The reader's answer, and the fields beside it.
 #[repr(C)]
-pub struct PlainOpened {
+pub struct PlainTold {
     pub answer: u8,
     pub fields: PlainFields,
-    pub codes: [u8; 322],
-    pub entries: [u8; 272],
 }
 
 // The writer's answer, and how many bytes it wrote.
@@ -41,8 +40,8 @@ pub struct PlainWritten {
     pub length: usize,
 }
 
-fn told(c: Content) -> PlainContent
-    ensures { λ r. ⌜ r ≡ toldAs c ⌝ }
+fn content_told(c: Content) -> PlainContent
+    ensures { λ r. ⌜ r ≡ contentTold c ⌝ }
 {
     let l = packet::lay(c);
     let kind = l.kind;
@@ -54,40 +53,35 @@ fn told(c: Content) -> PlainContent
     }
 }
 
-fn fields_told(f: Fields) -> PlainFields
-    ensures { λ r. ⌜ r ≡ fieldsTold f ⌝ }
+// What a packet says, as `reader::read` does; its codes, its entries and the digits beside its content in what is lent.
+#[no_mangle]
+pub extern "C" fn codec_read(
+    packet: &[u8],
+    codes: &mut [u8; 322],
+    entries: &mut [u8; 272],
+    digits: &mut [u8; 35],
+) -> PlainTold
+    ensures told { λ r. ⌜ r ≡ toldAs (opened (now (packet .entry))) ⌝ }
+    ensures coded { λ _. ⌜ now (codes .exit) ≡ opened (now (packet .entry)) .codes ⌝ }
+    ensures listed { λ _. ⌜ now (entries .exit) ≡ opened (now (packet .entry)) .entries ⌝ }
+    ensures beside { λ _. ⌜ now (digits .exit) ≡ opened (now (packet .entry)) .fields .digits ⌝ }
 {
-    let c = f.content;
-    let p = told(c);
-    let digits = f.digits;
-    let certificate = f.certificate;
-    let signature = f.signature;
-    PlainFields {
-        typenumber: f.typenumber,
-        codes: f.codes,
-        content: p,
-        digits: digits,
-        time: f.time,
+    let t = reader::read_to(packet, codes, entries, digits);
+    let c = t.content;
+    let content = content_told(c);
+    let certificate = t.certificate;
+    let signature = t.signature;
+    let fields = PlainFields {
+        typenumber: t.typenumber,
+        codes: t.codes,
+        content: content,
+        time: t.time,
         certificate: certificate,
         signature: signature,
-    }
-}
-
-// What a packet says, as `reader::read` does.
-#[no_mangle]
-pub extern "C" fn codec_read(packet: &[u8]) -> PlainOpened
-    ensures { λ r. ⌜ r ≡ openedAs (opened (now (packet .entry))) ⌝ }
-{
-    let o = reader::read(packet);
-    let f = o.fields;
-    let p = fields_told(f);
-    let codes = o.codes;
-    let entries = o.entries;
-    PlainOpened {
-        answer: o.answer,
-        fields: p,
-        codes: codes,
-        entries: entries,
+    };
+    PlainTold {
+        answer: t.answer,
+        fields: fields,
     }
 }
 
@@ -99,12 +93,11 @@ fn content_from(c: PlainContent) -> Content
     packet::named(packet::kind_of(c.kind), &numbers, c.count)
 }
 
-fn fields_from(f: PlainFields) -> Fields
-    ensures { λ r. ⌜ r ≡ fieldsFrom f ⌝ }
+fn fields_from(f: PlainFields, digits: [u8; 35]) -> Fields
+    ensures { λ r. ⌜ r ≡ fieldsFrom f digits ⌝ }
 {
     let p = f.content;
     let c = content_from(p);
-    let digits = f.digits;
     let certificate = f.certificate;
     let signature = f.signature;
     Fields {
@@ -122,14 +115,16 @@ fn fields_from(f: PlainFields) -> Fields
 #[no_mangle]
 pub extern "C" fn codec_write(
     fields: PlainFields,
+    digits: &[u8; 35],
     codes: &[u8],
     body: &[u8],
     out: &mut [u8],
 ) -> PlainWritten
-    ensures answer { λ r. ⌜ r ≡ writtenAs (written (fieldsFrom fields) (now (codes .entry)) (now (body .entry)) (length (now (out .entry)))) ⌝ }
-    ensures output { λ _. ⌜ now (out .exit) ≡ packetOutput (fieldsFrom fields) (now (codes .entry)) (now (body .entry)) (now (out .entry)) ⌝ }
+    ensures answer { λ r. ⌜ r ≡ writtenAs (written (fieldsFrom fields (now (digits .entry))) (now (codes .entry)) (now (body .entry)) (length (now (out .entry)))) ⌝ }
+    ensures output { λ _. ⌜ now (out .exit) ≡ packetOutput (fieldsFrom fields (now (digits .entry))) (now (codes .entry)) (now (body .entry)) (now (out .entry)) ⌝ }
 {
-    let f = fields_from(fields);
+    let d = *digits;
+    let f = fields_from(fields, d);
     let w = writer::write(f, codes, body, out);
     PlainWritten {
         answer: w.answer,

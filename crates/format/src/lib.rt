@@ -113,35 +113,6 @@ fn put(out: &mut [u8], i: usize, v: u8)
     }
 }
 
-// Half bytes that end at a byte's edge, all within so many bytes.
-fn halved(p: usize, n: usize, w: usize, len: usize) -> bool
-    requires { ⌜ (p < 65536) × (n < 256) ⌝ }
-    ensures { λ r. ⌜ (r ≡ true → (w ≡ 4) × ((p + 4 * n) % 8 ≡ 0) × (p + 4 * n ≤ 8 * len)) ⌝ }
-{
-    let e = p + 4 * n;
-    if w != 4 {
-        return false;
-    }
-    if e % 8 != 0 {
-        return false;
-    }
-    e / 8 <= len
-}
-
-// Numbers that are bytes, all within so many.
-fn whole(p: usize, n: usize, w: usize, len: usize) -> bool
-    requires { ⌜ (p < 65536) × (n < 256) ⌝ }
-    ensures { λ r. ⌜ (r ≡ true → (w ≡ 8) × (p % 8 ≡ 0) × (p / 8 + n ≤ len)) ⌝ }
-{
-    if w != 8 {
-        return false;
-    }
-    if p % 8 != 0 {
-        return false;
-    }
-    p / 8 + n <= len
-}
-
 fn read_each(b: &[u8], p: usize, n: usize, w: usize, out: &mut [u8], to: usize)
     requires { ⌜ (w ≤ 8) × (p < 65536) × (n < 256) × (to < 65536) ⌝ }
     ensures { λ _. ⌜ now (out .exit) ≡ sets (now (out .entry)) to (run (bits (now (b .entry))) p n w) ⌝ }
@@ -156,64 +127,6 @@ fn read_each(b: &[u8], p: usize, n: usize, w: usize, out: &mut [u8], to: usize)
     }
 }
 
-// n bytes from byte k on, as they are.
-fn read_octets(b: &[u8], k: usize, n: usize, out: &mut [u8], to: usize)
-    requires { ⌜ (k + n ≤ length (now b)) × (to + n ≤ length (now out)) ⌝ }
-    ensures { λ _. ⌜ now (out .exit) ≡ sets (now (out .entry)) to (run (bits (now (b .entry))) (k * 8) n 8) ⌝ }
-{
-    let mut j: usize = 0;
-    while j < n {
-        out[to + j] = b[k + j];
-        j += 1;
-    }
-}
-
-// The two halves of each of m bytes from byte k on.
-fn read_pairs(b: &[u8], k: usize, m: usize, out: &mut [u8], to: usize)
-    requires { ⌜ (k + m ≤ length (now b)) × (to + 2 * m ≤ length (now out)) ⌝ }
-    ensures { λ _. ⌜ now (out .exit) ≡ sets (now (out .entry)) to (run (bits (now (b .entry))) (k * 8) (2 * m) 4) ⌝ }
-{
-    let mut i = to;
-    let mut j: usize = 0;
-    while j < m {
-        let x = b[k + j];
-        out[i] = x / 16;
-        out[i + 1] = x % 16;
-        i += 2;
-        j += 1;
-    }
-}
-
-// Half bytes: where their number is odd one by itself, then two a byte.
-fn read_halves(b: &[u8], p: usize, n: usize, out: &mut [u8], to: usize)
-    requires { ⌜ ((p + 4 * n) % 8 ≡ 0) × (p + 4 * n ≤ 8 * length (now b)) × (to + n ≤ length (now out)) × (p < 65536) × (to < 65536) ⌝ }
-    ensures { λ _. ⌜ now (out .exit) ≡ sets (now (out .entry)) to (run (bits (now (b .entry))) p n 4) ⌝ }
-{
-    let a = n % 2;
-    read_each(b, p, a, 4, out, to);
-    read_pairs(b, p / 8 + a, n / 2, out, to + a);
-}
-
-// Half bytes and bytes without a look at every number's place.
-fn read_fields(b: &[u8], p: usize, n: usize, w: usize, out: &mut [u8], to: usize)
-    requires { ⌜ (w ≤ 8) × (p < 65536) × (n < 256) × (to < 65536) ⌝ }
-    ensures { λ _. ⌜ now (out .exit) ≡ sets (now (out .entry)) to (run (bits (now (b .entry))) p n w) ⌝ }
-{
-    if to + n <= out.len() {
-        if halved(p, n, w, b.len()) {
-            read_halves(b, p, n, out, to);
-        } else {
-            if whole(p, n, w, b.len()) {
-                read_octets(b, p / 8, n, out, to);
-            } else {
-                read_each(b, p, n, w, out, to);
-            }
-        }
-    } else {
-        read_each(b, p, n, w, out, to);
-    }
-}
-
 // n numbers of w bits, at most 8, from bit p on, to out from to on.
 pub fn fields(b: &[u8], p: usize, n: usize, w: usize, out: &mut [u8], to: usize)
     ensures { λ _. ⌜ now (out .exit) ≡ sets (now (out .entry)) to (fieldsRead (bits (now (b .entry))) p n w to) ⌝ }
@@ -221,7 +134,7 @@ pub fn fields(b: &[u8], p: usize, n: usize, w: usize, out: &mut [u8], to: usize)
     if reaches(p, n, w) {
         if w <= 8 {
             if to < 65536 {
-                read_fields(b, p, n, w, out, to);
+                read_each(b, p, n, w, out, to);
             }
         }
     }
@@ -247,55 +160,12 @@ fn test_each(b: &[u8], p: usize, n: usize, w: usize, lo: u32, hi: u32) -> bool
     true
 }
 
-// The two halves of each of m bytes from byte k on are at most hi.
-fn test_pairs(b: &[u8], k: usize, m: usize, hi: u32) -> bool
-    requires { ⌜ k + m ≤ length (now b) ⌝ }
-    ensures { λ r. ⌜ r ≡ inside 0 hi (run (bits (now (b .entry))) (k * 8) (2 * m) 4) ⌝ }
-{
-    let mut j: usize = 0;
-    while j < m {
-        let x = b[k + j] as u32;
-        if x / 16 > hi {
-            return false;
-        }
-        if x % 16 > hi {
-            return false;
-        }
-        j += 1;
-    }
-    true
-}
-
-// Half bytes, as they are read.
-fn test_halves(b: &[u8], p: usize, n: usize, hi: u32) -> bool
-    requires { ⌜ ((p + 4 * n) % 8 ≡ 0) × (p + 4 * n ≤ 8 * length (now b)) × (p < 65536) ⌝ }
-    ensures { λ r. ⌜ r ≡ inside 0 hi (run (bits (now (b .entry))) p n 4) ⌝ }
-{
-    let a = n % 2;
-    if !test_each(b, p, a, 4, 0, hi) {
-        return false;
-    }
-    test_pairs(b, p / 8 + a, n / 2, hi)
-}
-
-fn test_range(b: &[u8], p: usize, n: usize, w: usize, lo: u32, hi: u32) -> bool
-    requires { ⌜ (w ≤ 32) × (p < 65536) × (n < 256) ⌝ }
-    ensures { λ r. ⌜ r ≡ inside lo hi (run (bits (now (b .entry))) p n w) ⌝ }
-{
-    if lo == 0 {
-        if halved(p, n, w, b.len()) {
-            return test_halves(b, p, n, hi);
-        }
-    }
-    test_each(b, p, n, w, lo, hi)
-}
-
 // Each of n numbers of w bits from bit p on is lo to hi.
 pub fn ranged(b: &[u8], p: usize, n: usize, w: usize, lo: u32, hi: u32) -> bool
     ensures { λ r. ⌜ r ≡ inRange (bits (now (b .entry))) p n w lo hi ⌝ }
 {
     if reaches(p, n, w) {
-        test_range(b, p, n, w, lo, hi)
+        test_each(b, p, n, w, lo, hi)
     } else {
         false
     }
@@ -388,44 +258,29 @@ fn write_octets(out: &mut [u8], k: usize, d: &[u8])
     }
 }
 
-// Half bytes, two to each of m bytes from byte k on.
-fn write_pairs(out: &mut [u8], k: usize, m: usize, d: &[u8])
-    requires { ⌜ (k + m ≤ length (now out)) × (length (now d) ≡ 2 * m) ⌝ }
-    ensures { λ _. ⌜ bits (now (out .exit)) ≡ sets (bits (now (out .entry))) (k * 8) (spread 4 (now (d .entry))) ⌝ }
+// Numbers that are bytes, all within so many.
+fn whole(p: usize, n: usize, w: usize, len: usize) -> bool
+    requires { ⌜ (p < 65536) × (n < 256) ⌝ }
+    ensures { λ r. ⌜ (r ≡ true → (w ≡ 8) × (p % 8 ≡ 0) × (p / 8 + n ≤ len)) ⌝ }
 {
-    let mut i: usize = 0;
-    let mut j: usize = 0;
-    while j < m {
-        out[k + j] = d[i] % 16 * 16 + d[i + 1] % 16;
-        i += 2;
-        j += 1;
+    if w != 8 {
+        return false;
     }
+    if p % 8 != 0 {
+        return false;
+    }
+    p / 8 + n <= len
 }
 
-// Half bytes, as they are read.
-fn write_halves(out: &mut [u8], p: usize, d: &[u8])
-    requires { ⌜ ((p + 4 * length (now d)) % 8 ≡ 0) × (p + 4 * length (now d) ≤ 8 * length (now out)) × (p < 65536) ⌝ }
-    ensures { λ _. ⌜ bits (now (out .exit)) ≡ sets (bits (now (out .entry))) p (spread 4 (now (d .entry))) ⌝ }
-{
-    let n = d.len();
-    let a = n % 2;
-    write_each(out, p, 4, &d[0..a]);
-    write_pairs(out, p / 8 + a, n / 2, &d[a..n]);
-}
-
+// Bytes without a look at every one's place.
 fn write_fields(out: &mut [u8], p: usize, w: usize, d: &[u8])
     requires { ⌜ (w ≤ 32) × (p < 65536) × (length (now d) < 256) ⌝ }
     ensures { λ _. ⌜ bits (now (out .exit)) ≡ sets (bits (now (out .entry))) p (spread w (now (d .entry))) ⌝ }
 {
-    let n = d.len();
-    if halved(p, n, w, out.len()) {
-        write_halves(out, p, d);
+    if whole(p, d.len(), w, out.len()) {
+        write_octets(out, p / 8, d);
     } else {
-        if whole(p, n, w, out.len()) {
-            write_octets(out, p / 8, d);
-        } else {
-            write_each(out, p, w, d);
-        }
+        write_each(out, p, w, d);
     }
 }
 

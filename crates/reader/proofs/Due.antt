@@ -140,3 +140,7 @@ plain-unmet k (t ∷ ts) a h =
 
 pub rows-plain : (n : ℕ) (row : List Line) (l : List ℕ) (q : ℕ) → all plain row ≡ true → Judged (λ (k : ℕ). fine k (times n row) (decode (times n row) l q)) 255
 rows-plain n row l q h = none-due (λ (k : ℕ). fine k (times n row) (decode (times n row) l q)) (λ k a. rows-unmet k n row l q (plain-unmet k row a h))
+
+-- the smaller of two is at most the first
+pub lesser-left : (a b : ℕ) → lesser a b ≤ a
+lesser-left a b = by-test (ltb b a) (λ t. rw t (omega (arith, ltb-true b a t))) (λ t. rw t (omega arith))

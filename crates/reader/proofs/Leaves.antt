@@ -1,6 +1,6 @@
 -- The loops over half bytes, bytes and rows: a turn of each, and flags that a test puts down. Assumes nothing.
 use mathlib.Core.Path.{_≡_, refl, sym, ap, ap₂, _∙_}
-use mathlib.Core.Bool.{Bool, true, false, cond, _&&_, and-true}
+use mathlib.Core.Bool.{Bool, true, false, cond, _&&_, and-true, and-false}
 use mathlib.Core.Logic.{_⊎_, ⊎-elim}
 use mathlib.Core.List.{List, [], _∷_, _++_, append-nil}
 use Prim.Native.Nat.{ℕ, zero, suc, _+_, _-_, _*_, _/_, _%_, _<_, _≤_}
@@ -10,10 +10,11 @@ use native.Mathlib.Omega.{arith}
 use lib.ListN.{length, getD, getD-replicate, set, drop-of-length-le}
 use lib.Seq.{sets}
 use lib.Dec.{leb, eqb}
-use borrow.Author.Tests.{le-leb, lt-leb, leb-true, eq-eqb, ne-eqb, eqb-true, eqb-false}
+use borrow.Author.Tests.{le-leb, lt-leb, leb-true, leb-false, eq-eqb, ne-eqb, eqb-true, eqb-false}
 use Rattle.laws.specs.Bits.{at, run, bits}
 use Rattle.laws.specs.Strips.{strips, every}
 use Rattle.laws.proofs.Cases.{if-yes, if-no, and-yes, and-no, and-both}
+use Rattle.laws.proofs.ByteFields.{at-parts}
 use Rattle.laws.proofs.Elements.{by-test}
 use Rattle.laws.proofs.Strips.{strips-same, every-same}
 use Rattle.laws.proofs.Writes.{from-front}
@@ -43,20 +44,31 @@ both-ends g h l lo hi x e f = f ∙ ap (λ (y : Bool). y && leb x hi) e ∙ turn
     turned false a b = refl
 
 -- ---- the two halves of a byte
-pub pairs-judged : (b : List ℕ) (all g h l : Bool) (k m j x : ℕ) → j < m → x < 256 → x ≡ getD b (k + j) 0
-    → all ≡ (g && inside 0 9 (run (bits b) ((k + j) * 8) (2 * m - 2 * j) 4)) → h ≡ (g && leb (x / 16) 9) → l ≡ (h && leb (x % 16) 9)
-    → all ≡ (l && inside 0 9 (run (bits b) ((k + (j + 1)) * 8) (2 * m - 2 * (j + 1)) 4))
+first-digit : (x : ℕ) (xs : List ℕ) → inside 0 9 (x ∷ xs) ≡ (leb x 9 && inside 0 9 xs)
 unfolding inside
-pairs-judged b all g h l k m j x i s e f u v =
-    let r = inside 0 9 (run (bits b) ((k + (j + 1)) * 8) (2 * m - 2 * (j + 1)) 4) in
-    f ∙ ap (λ (y : List ℕ). g && inside 0 9 y) (pairs-step b k m j x i s e)
-    ∙ rw (le-leb 0 (x / 16) (omega arith), le-leb 0 (x % 16) (omega arith)) (turned g (leb (x / 16) 9) (leb (x % 16) 9) r)
-    ∙ ap (λ (y : Bool). y && r) (sym (v ∙ ap (λ (y : Bool). y && leb (x % 16) 9) u))
-  where
-    turned : (g a b c : Bool) → (g && (a && (b && c))) ≡ (((g && a) && b) && c)
-    turned true true b c = refl
-    turned true false b c = refl
-    turned false a b c = refl
+first-digit x xs = rw (le-leb 0 x (omega arith))
+
+-- a half byte above 9 counts one more, a digit none
+half-counted : (g u : ℕ) (r : List ℕ) → u < 16 → (eqb g 0 && inside 0 9 (u ∷ r)) ≡ (eqb (g + (u + 6) / 16) 0 && inside 0 9 r)
+half-counted g u r h =
+    by-test (leb u 9)
+    (λ t.
+    let z : g ≡ g + (u + 6) / 16 = omega (arith, leb-true u 9 t) in
+    ap₂ (λ (n : ℕ) (y : Bool). eqb n 0 && y) z (first-digit u r ∙ and-yes (inside 0 9 r) t))
+    (λ t.
+    ap (λ (y : Bool). eqb g 0 && y) (first-digit u r ∙ and-no (inside 0 9 r) t)
+    ∙ and-false (eqb g 0)
+    ∙ sym (and-no (inside 0 9 r) (ne-eqb (g + (u + 6) / 16) 0 (λ z. omega (arith, leb-false u 9 t, z)))))
+
+pub pairs-counted : (b : List ℕ) (all : Bool) (g k m j x : ℕ) → j < m → x < 256 → x ≡ getD b (k + j) 0 → all ≡ (eqb g 0 && inside 0 9 (run (bits b) ((k + j) * 8) (2 * m - 2 * j) 4))
+    → all ≡ (eqb (g + ((x / 16 + 6) / 16 + (x % 16 + 6) / 16)) 0 && inside 0 9 (run (bits b) ((k + (j + 1)) * 8) (2 * m - 2 * (j + 1)) 4))
+pairs-counted b all g k m j x i s e f =
+    let r = run (bits b) ((k + (j + 1)) * 8) (2 * m - 2 * (j + 1)) 4 in
+    let z : g + (x / 16 + 6) / 16 + (x % 16 + 6) / 16 ≡ g + ((x / 16 + 6) / 16 + (x % 16 + 6) / 16) = omega arith in
+    f ∙ ap (λ (y : List ℕ). eqb g 0 && inside 0 9 y) (pairs-step b k m j x i s e)
+    ∙ half-counted g (x / 16) (x % 16 ∷ r) (omega arith)
+    ∙ half-counted (g + (x / 16 + 6) / 16) (x % 16) r (omega arith)
+    ∙ ap (λ (n : ℕ). eqb n 0 && inside 0 9 r) z
 
 pub flag-done : (l : List ℕ) (all g : Bool) (lo hi q n w j : ℕ) → n ≤ j → all ≡ (g && inside lo hi (run l q (n - j) w)) → g ≡ all
 unfolding inside
@@ -91,10 +103,6 @@ digits-even l e c h i =
     let p : (e - c / 2) * 8 ≡ e * 8 - c * 4 = omega arith in
     let n : 2 * (c / 2) ≡ c = omega arith in
     ap₂ (λ (u v : ℕ). run l u v 4) p n
-
-first-digit : (x : ℕ) (xs : List ℕ) → inside 0 9 (x ∷ xs) ≡ (leb x 9 && inside 0 9 xs)
-unfolding inside
-first-digit x xs = rw (le-leb 0 x (omega arith))
 
 module _ (b : List ℕ) (e c x : ℕ) (h : c ≤ 2 * e) (i : c % 2 ≡ 1) (g : x ≡ getD b (e - c / 2 - 1) 0) where
   digits-odd : x % 16 ∷ run (bits b) ((e - c / 2) * 8) (2 * (c / 2)) 4 ≡ run (bits b) (e * 8 - c * 4) c 4
@@ -200,3 +208,19 @@ module _ (t : Line) (l : List ℕ) (p q c w : ℕ) (eq : q ≡ p) (ec : c ≡ t 
 
   pub line-tests : (lo hi n s : ℕ) → lo ≡ t .lo → hi ≡ t .hi → every n (λ (k : ℕ). inside lo hi (run l (q + k * s) c w)) ≡ every n (λ (k : ℕ). inside (t .lo) (t .hi) (run l (p + k * s) (t .count) (t .width)))
   line-tests lo hi n s el eh = every-same n _ _ (λ k h. rw (eq, ec, ew, el, eh))
+
+-- four bytes are a number of 32 bits
+pub four-bytes : (b : List ℕ) (k w x y z : ℕ) → w < 256 → x < 256 → y < 256 → z < 256 → w ≡ getD b k 0 → x ≡ getD b (k + 1) 0 → y ≡ getD b (k + 2) 0 → z ≡ getD b (k + 3) 0
+    → w * 16777216 + x * 65536 + y * 256 + z ≡ at (bits b) (8 * k) 32
+four-bytes b k w x y z hw hx hy hz ew ex ey ez =
+    let l = bits b in
+    let p = 8 * k in
+    let place : (i q : ℕ) → q ≡ (k + i) * 8 → at l ((k + i) * 8) 8 ≡ at l q 8 = λ i q e. ap (λ (j : ℕ). at l j 8) (sym e) in
+    let a : w ≡ at l p 8 = byte-at b k w hw ew ∙ ap (λ (j : ℕ). at l j 8) (omega arith) in
+    let c : x ≡ at l (p + 8) 8 = byte-at b (k + 1) x hx ex ∙ place 1 (p + 8) (omega arith) in
+    let d : y ≡ at l (p + 16) 8 = byte-at b (k + 2) y hy ey ∙ place 2 (p + 16) (omega arith) in
+    let e : z ≡ at l (p + 24) 8 = byte-at b (k + 3) z hz ez ∙ place 3 (p + 24) (omega arith) in
+    let two : at l p 16 ≡ at l p 8 * 256 + at l (p + 8) 8 = at-parts l p 8 8 in
+    let three : at l p 24 ≡ at l p 16 * 256 + at l (p + 16) 8 = at-parts l p 16 8 in
+    let four : at l p 32 ≡ at l p 24 * 256 + at l (p + 24) 8 = at-parts l p 24 8 in
+    omega (arith, a, c, d, e, two, three, four)

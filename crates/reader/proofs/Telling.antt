@@ -1,7 +1,7 @@
 -- A packet whose sizes are right: what its parts ask, what they are due together, and what it says. Assumes nothing.
 use mathlib.Core.Path.{_≡_, refl, sym, ap, ap₂, subst, _∙_}
 use mathlib.Core.Bool.{Bool, true, false, not, cond, _&&_, and-true}
-use mathlib.Core.List.{List, []}
+use mathlib.Core.List.{List, [], _++_}
 use Prim.Native.Nat.{ℕ, zero, suc, _+_, _-_, _*_, _<_, _≤_}
 use native.Mathlib.Omega.{arith}
 use lib.ListN.{length, drop}
@@ -16,19 +16,19 @@ use Rattle.laws.proofs.Elements.{by-test}
 use Rattle.format.specs.Format.{digits, times, size, inside, decode, fine}
 use Rattle.packet.specs.declared.Kind.{Kind}
 use Rattle.packet.specs.declared.Content.{Content}
-use Rattle.packet.specs.declared.Fields.{Fields}
 use Rattle.packet.specs.declared.Opened.{Opened}
-use Rattle.packet.specs.declared.RowLines.{RowLines}
-use Rattle.packet.specs.declared.Sizes.{Sizes}
 use Rattle.packet.specs.Table.{rowOf, code, ending, contentLines}
-use Rattle.packet.specs.Content.{contentOf, noSuchDay}
-use Rattle.packet.specs.Reading.{readAnswer, opened, openedBy, refusedAs, typeIn, fieldsOf, codesIn, kindIn, numbersAt, frontIn, bodyIn, backIn, contentIn, digitsIn, codesOf, zeros, padded, hasEntries, tableOf, valuesIn, readCases}
+use Rattle.packet.specs.Content.{contentOf, numbersIn, noSuchDay}
+use Rattle.packet.specs.Reading.{readAnswer, opened, openedBy, refusedAs, noFields, fieldsOf, codesIn, kindIn, partAt, numbersAt, frontIn, bodyIn, backIn, contentIn, digitsIn, codesOf, zeros, padded, hasEntries, isUnknown, tableOf, valuesIn, readCases}
 use Rattle.packet.proofs.Column.{content-size}
 use Rattle.packet.proofs.Refused.{not-opened}
-use Rattle.reader.specs.Due.{asked, passing, lesser, Judged}
-use Rattle.reader.specs.Taking.{Holding, Beside, Right}
+use Rattle.reader.specs.Due.{asked, passing, lesser, answerBy, Judged}
+use Rattle.packet.specs.declared.RowLines.{RowLines}
+use Rattle.packet.specs.declared.Sizes.{Sizes}
+use Rattle.reader.specs.declared.Told.{Told}
+use Rattle.reader.specs.Taking.{Holding, Beside, Right, Blank, Long, toldOf, tells, Filled}
 use Rattle.reader.proofs.Due.{both, judged-same, line-fine, line-due, asked-some, asked-not, asked-cases}
-use Rattle.reader.proofs.Zeros.{full}
+use Rattle.reader.proofs.Zeros.{full, kept, length-zeros}
 use Rattle.reader.proofs.Whole as whole
 
 -- ---- the answer by what the lines are due
@@ -39,7 +39,7 @@ says-due b d j l =
     asked-cases d (y .0) (λ e. e ∙ whole.says-24 b (at 24 e)) (λ e. e ∙ whole.says-25 b (j .fine 24 refl (omega arith)) (at 25 e))
     (λ e. e ∙ whole.says-27 b (j .fine 24 refl (omega arith)) (j .fine 25 refl (omega arith)) (or-yes _ (ap not (at 27 e))))
 
-pub says : (b : List ℕ) (d : ℕ) (day : Bool) → Judged (λ (a : ℕ). fine a (tableOf b) (valuesIn b)) d → d < 256 → day ≡ noSuchDay (contentIn b) → cond (eqb d 255) (cond day 27 0) d ≡ first (drop 3 (readCases b))
+pub says : (b : List ℕ) (d : ℕ) (day : Bool) → Judged (λ (a : ℕ). fine a (tableOf b) (valuesIn b)) d → d < 256 → day ≡ noSuchDay (contentIn b) → answerBy d day ≡ first (drop 3 (readCases b))
 says b d day j l e =
     by-test (eqb d 255)
     (λ t. let f : (k : ℕ) → asked k ≡ true → k < 255 → fine k (tableOf b) (valuesIn b) ≡ true = λ k a m. j .fine k a (omega (arith, eqb-true d 255 t)) in
@@ -59,7 +59,7 @@ ending-due l e good g = judged-same (passing (digits 12) good) _ _ same (by-test
         let no : eqb 0 k ≡ false = ne-eqb 0 k (λ x. asked-some k a (sym x)) in
         rw (no, g) (sym (and-true _))
 
-module _ (f : Kind) (s : RowLines) (z : Sizes) (n k : ℕ) (b codes entries : List ℕ) (h : Right f s z n k b codes entries) where
+module _ (f : Kind) (s : RowLines) (z : Sizes) (n k : ℕ) (b : List ℕ) (h : Right f s z n k b) where
   S : whole.Sized b
   S = whole.sized b (h .sized)
 
@@ -75,8 +75,8 @@ module _ (f : Kind) (s : RowLines) (z : Sizes) (n k : ℕ) (b codes entries : Li
   long : size (contentLines (rowOf f) k) ≡ 8 * (length b - 77 - 12 * n)
   long = rw (h .kind, h .count, h .many) (whole.right-size b (h .long))
 
-  pub holding : (d : List ℕ) → d ≡ zeros 35 → Holding f s z k (length b) (24 + 96 * n) d entries
-  holding d e =
+  pub holding : (d o : List ℕ) → d ≡ zeros 35 → o ≡ zeros 272 → Holding f s z k (length b) (24 + 96 * n) d o
+  holding d o e g =
       record {
         row = h .row;
         sizes = h .sizes;
@@ -87,7 +87,7 @@ module _ (f : Kind) (s : RowLines) (z : Sizes) (n k : ℕ) (b codes entries : Li
         inside = omega (arith, long, content-size (rowOf f) k, codes-there);
         short = S .most;
         none = e;
-        also-none = h .also-none;
+        also-none = g;
       }
 
   pub packet-due : (u v d : ℕ) (good : Bool) → good ≡ inside 0 9 (run (bits b) ((length b - 64) * 8 - 12 * 4) 12 4)
@@ -102,6 +102,10 @@ module _ (f : Kind) (s : RowLines) (z : Sizes) (n k : ℕ) (b codes entries : Li
       both F H (λ (a : ℕ). fine a (tableOf b) (valuesIn b)) _ v d (both _ _ F u _ _ ju je (λ a x. refl) refl) jv
       (λ a x. whole.packet-parts a b (asked-not a x) (whole.right-size b (h .long)) ∙ ap₂ _&&_ (sym (whole.frame-at a b n m (h .many) (ap (λ (y : ℕ). length b - 77 - 12 * y) (h .many)))) (sym (whole.content-here a b f k n (h .kind) (h .count) (h .many))))
       e
+
+  -- its answer is what its lines are due
+  pub answer-is : (a : ℕ) → a ≡ first (drop 3 (readCases b)) → a ≡ readAnswer b
+  answer-is a e = whole.then-lines b (h .sized) (sym (ap isUnknown (h .kind)) ∙ h .known) (h .long) a e
 
   -- ---- what it says
   pub content-is : (c : Content) → c ≡ contentOf f (numbersAt (rowOf f .before) b (24 + 96 * n)) k → c ≡ contentIn b
@@ -125,24 +129,50 @@ module _ (f : Kind) (s : RowLines) (z : Sizes) (n k : ℕ) (b codes entries : Li
       let p : (length b - 64) * 8 - 12 * 4 ≡ 8 * (length b - 70) = omega (arith, codes-there) in
       full 12 z o (run (bits b) ((length b - 64) * 8 - 12 * 4) 12 4) e g (length-run (bits b) ((length b - 64) * 8 - 12 * 4) 12 4) ∙ ap (λ (x : ℕ). run (bits b) x 12 4) p
 
--- all of the fields
-pub fields-are : (b : List ℕ) (t m : ℕ) (c : Content) (d : List ℕ) (x : ℕ) (y g : List ℕ) → t ≡ typeIn b → m ≡ codesIn b → c ≡ contentIn b → d ≡ padded 35 (digitsIn b) → x ≡ at (bits b) (8 * (length b - 74)) 32
-    → y ≡ run (bits b) (8 * (length b - 70)) 12 4 → g ≡ run (bits b) (8 * (length b - 64)) 64 8
-    → _≡_ {A = Fields} (record { typenumber = t; codes = m; content = c; digits = d; time = x; certificate = y; signature = g }) (fieldsOf b)
+-- the arrays keep their lengths
+pub long-all : (codes entries digits o e d xs : List ℕ) (f : Kind) (k q : ℕ) (b : List ℕ) → Blank codes entries digits → o ≡ sets codes 0 xs → Beside f k b q d e → Long o e d
+long-all codes entries digits o e d xs f k q b h p x =
+    record {
+      codes-long = kept 322 codes o xs 0 (length-zeros 322 codes (h .codes-none)) p;
+      entries-long = kept 272 (zeros 272) e (cond (hasEntries f) (numbersAt (times k (rowOf f .each)) b (q + partAt (rowOf f))) []) 0 (length-zeros 272 (zeros 272) refl) (x .entries-are);
+      digits-long = kept 35 (zeros 35) d (drop (numbersIn f) (numbersAt (rowOf f .before) b q) ++ numbersAt (rowOf f .after) b (q + (partAt (rowOf f) + k * size (rowOf f .each)))) 0 (length-zeros 35 (zeros 35) refl) (x .digits-are);
+    }
+
+-- and so do those that are wiped
+pub wiped : (l z : List ℕ) (n m : ℕ) → z ≡ zeros n → n ≡ m → l ≡ zeros m → length z ≡ length l
+wiped l z n m e k h = length-zeros n z e ∙ k ∙ sym (length-zeros m l h)
+
+-- all that is told beside 0
+pub told-all : (b : List ℕ) (n : ℕ) (c : Content) (y : List ℕ) → n ≡ codesIn b → c ≡ contentIn b → y ≡ run (bits b) (8 * (length b - 70)) 12 4 → tells b n c y ≡ toldOf (openedBy 0 b)
 unfolding fieldsOf
-fields-are b t m c d x y g et em ec ed ex ey eg = rw (et, em, ec, ed, ex, ey, eg)
+told-all b n c y en ec ey = rw (en, ec, ey)
+
+pub digits-told : (b d : List ℕ) → d ≡ padded 35 (digitsIn b) → d ≡ openedBy 0 b .fields .digits
+unfolding fieldsOf
+digits-told b d e = e
 
 -- ---- what is opened beside a number, and beside 0
 pub opened-none : (b : List ℕ) (a : ℕ) → a ≡ readAnswer b → (a ≡ 0 → ⊥) → opened b ≡ refusedAs a
 unfolding opened
 opened-none b a e n = not-opened (readAnswer b) b (λ h. n (e ∙ h)) ∙ ap refusedAs (sym e)
 
-pub opened-all : (b : List ℕ) → readAnswer b ≡ 0 → opened b ≡ openedBy 0 b
-unfolding opened
-opened-all b e = ap (λ (a : ℕ). openedBy a b) e
+-- arrays of zeros are what is opened beside a number
+pub none-filled : (b : List ℕ) (a : ℕ) (t : Told) (codes entries digits : List ℕ) → a ≡ readAnswer b → (a ≡ 0 → ⊥) → t ≡ toldOf (refusedAs a) → Blank codes entries digits → Filled (opened b) t codes entries digits
+unfolding noFields
+none-filled b a t codes entries digits e n g h =
+    let o = opened-none b a e n in
+    rw o record { told-is = g; codes-are = h .codes-none; entries-are = h .entries-none; digits-are = h .digits-none }
 
-pub opened-of : (o : Opened) (a : ℕ) (f : Fields) (k e : List ℕ) → a ≡ o .answer → f ≡ o .fields → k ≡ o .codes → e ≡ o .entries → _≡_ {A = Opened} (record { answer = a; fields = f; codes = k; entries = e }) o
-opened-of o a f k e p q r s = rw (p, q, r, s)
+-- what the lines say is what is opened beside 0
+pub all-filled : (b : List ℕ) (t : Told) (codes entries digits : List ℕ) → readAnswer b ≡ 0 → Filled (openedBy 0 b) t codes entries digits → Filled (opened b) t codes entries digits
+unfolding opened
+all-filled b t codes entries digits e h = rw e h
+
+-- and that is a record of what is told with the arrays in it
+pub opened-of : (o : Opened) (t : Told) (codes entries digits : List ℕ) → Filled o t codes entries digits
+    → _≡_ {A = Opened}
+    (record { answer = t .answer; fields = record { typenumber = t .typenumber; codes = t .codes; content = t .content; digits = digits; time = t .time; certificate = t .certificate; signature = t .signature }; codes = codes; entries = entries }) o
+opened-of o t codes entries digits h = rw (h .told-is, h .codes-are, h .entries-are, h .digits-are)
 
 pub answered : (b : List ℕ) → opened b .answer ≡ readAnswer b
 unfolding opened

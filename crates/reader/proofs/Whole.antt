@@ -21,9 +21,12 @@ use Rattle.packet.specs.declared.Kind.{Kind}
 use Rattle.packet.specs.declared.Counting.{Counting}
 use Rattle.packet.specs.declared.Counting.the-variants as counting
 use Rattle.packet.specs.Table.{Row, contentBytes, rowOf, countLine, countBy, countIn, contentLines, code, ending, packet}
+use Rattle.packet.specs.declared.RowLines.{RowLines}
 use Rattle.packet.specs.declared.Sizes.{Sizes}
+use Rattle.packet.specs.InCode.{rowAt}
+use Rattle.packet.proofs.Spans.{stands}
 use Rattle.packet.proofs.Good.{good}
-use Rattle.packet.specs.Reading.{isUnknown, sizesOf, lengthIn, codesIn, kindIn, contentAt, contentSize, countOf, partAt, tableOf, valuesIn, sizeBad, lengthBad, fieldBad, readCases, readAnswer, textAnswer, textOf, bodyOf, hasEntries}
+use Rattle.packet.specs.Reading.{isUnknown, unknownBy, sizesOf, lengthIn, codesIn, kindIn, contentAt, contentSize, countOf, partAt, tableOf, valuesIn, sizeBad, lengthBad, fieldBad, readCases, readAnswer, textAnswer, textOf, bodyOf, hasEntries}
 use Rattle.packet.proofs.ByType.{below-not}
 use Rattle.reader.proofs.Zeros.{lead-is}
 use Rattle.packet.proofs.Column.{count-size, content-size, column}
@@ -218,3 +221,13 @@ sizes f z e =
     let s = ap (λ (x : Sizes). x .rest) e in
     let g = good f in
     record { lead = l; each = r; rest = s; lead-most = omega (arith, l, g .lead); each-most = omega (arith, r, g .row); rest-most = omega (arith, s, g .rest) }
+
+-- ---- what the functions that ask a heading found
+pub unknown-is : (f : Kind) (s : RowLines) (u : Bool) → s ≡ rowAt f → u ≡ unknownBy (s .counting) → u ≡ isUnknown f
+unknown-is f s u e h = h ∙ ap unknownBy (stands f e .same)
+
+pub count-here : (b : List ℕ) (f : Kind) (s : RowLines) (z : Sizes) (n m k : ℕ) → f ≡ kindIn b → s ≡ rowAt f → z ≡ sizesOf f → n ≡ codesIn b → m ≡ contentSize b → k ≡ countBy (s .counting) (at (bits b) (16 + 96 * n + z .lead) 8) m → k ≡ countOf b
+count-here b f s z n m k ef es ez en em h = h ∙ count-is b f _ n m _ ef en em (stands f es .same) (ap (λ (x : ℕ). 16 + 96 * n + x) (sizes f z ez .lead))
+
+pub long-here : (b : List ℕ) (f : Kind) (z : Sizes) (k m : ℕ) (l : Bool) → f ≡ kindIn b → z ≡ sizesOf f → k ≡ countOf b → m ≡ contentSize b → l ≡ not (eqb (z .lead + k * z .each + z .rest) (8 * m)) → l ≡ lengthBad b
+long-here b f z k m l ef ez ek em h = let Z = sizes f z ez in h ∙ length-at b f k m _ _ _ ef ek em (Z .lead) (Z .each) (Z .rest)

@@ -25,6 +25,10 @@ passing t x k = cond (eqb (t .answer) k) x true
 abbrev pub lesser : ℕ → ℕ → ℕ
 lesser a b = cond (ltb b a) b a
 
+-- the answer where so much is due: it, or 27 for the day
+abbrev pub answerBy : ℕ → Bool → ℕ
+answerBy d day = cond (eqb d 255) (cond day 27 0) d
+
 -- r is the least of these numbers whose test fails, and 255 where none does
 pub record Judged (passes : ℕ → Bool) (r : ℕ) : Type 0 where
   pub fine : (k : ℕ) → asked k ≡ true → k < r → passes k ≡ true

@@ -1,15 +1,16 @@
 -- What the functions under the packet reader ask of each other and give: lines taken by columns (ours, between functions).
-use Prim.Native.Nat.{ℕ, _+_, _*_, _/_, _%_, _<_, _≤_}
+use Prim.Native.Nat.{ℕ, _+_, _-_, _*_, _/_, _%_, _<_, _≤_}
 use mathlib.Core.Path.{_≡_}
 use mathlib.Core.Bool.{true, false, cond}
 use mathlib.Core.List.{List, [], _++_}
 use lib.ListN.{length, take, drop}
 use lib.Dec.{ltb}
-use Rattle.laws.specs.Bits.{run, bits}
+use Rattle.laws.specs.Bits.{at, run, bits}
 use Rattle.laws.specs.Scan.{all}
 use Rattle.format.specs.declared.Line.{Line}
 use Rattle.format.specs.Format.{times, own, size, need, sound}
 use Rattle.packet.specs.declared.Kind.{Kind}
+use Rattle.packet.specs.declared.Content.{Content}
 use Rattle.packet.specs.declared.Lines.{Lines}
 use Rattle.packet.specs.declared.RowLines.{RowLines}
 use Rattle.packet.specs.declared.Sizes.{Sizes}
@@ -17,9 +18,9 @@ use Rattle.packet.specs.Table.{rowOf}
 use Rattle.packet.specs.Content.{numbersIn}
 use Rattle.packet.specs.Columns.{column, columns, single}
 use Rattle.packet.specs.InCode.{everyLine, rowAt, linesIn, Stands}
-use Rattle.packet.specs.Reading.{codesIn, kindIn, countOf, partAt, numbersAt, zeros, padded, sizesOf, isUnknown, hasEntries, codesOf, bodyIn, fieldsOf, noFields, sizeBad, lengthBad, readCases}
-use Rattle.packet.specs.declared.Fields.{Fields}
-use Rattle.laws.specs.Refusals.{first}
+use Rattle.packet.specs.Reading.{typeIn, codesIn, kindIn, countOf, partAt, numbersAt, zeros, padded, sizesOf, isUnknown, hasEntries, sizeBad, lengthBad, readAnswer, openedBy, refusedAs}
+use Rattle.packet.specs.declared.Opened.{Opened}
+use Rattle.reader.specs.declared.Told.{Told}
 use Rattle.reader.specs.Due.{plain}
 
 -- the own numbers of a line that begins at place p
@@ -107,8 +108,8 @@ pub record Beside (f : Kind) (k : ℕ) (b : List ℕ) (q : ℕ) (digits entries 
   pub digits-are : digits ≡ padded 35 (drop (numbersIn f) (numbersAt (rowOf f .before) b q) ++ numbersAt (rowOf f .after) b (q + (partAt (rowOf f) + k * size (rowOf f .each))))
   pub entries-are : entries ≡ padded 272 (cond (hasEntries f) (numbersAt (times k (rowOf f .each)) b (q + partAt (rowOf f))) [])
 
--- a packet whose sizes are right, with what its heading says, and arrays of zeros
-pub record Right (f : Kind) (s : RowLines) (z : Sizes) (n k : ℕ) (b codes entries : List ℕ) : Type 0 where
+-- a packet whose sizes are right, with what its heading says
+pub record Right (f : Kind) (s : RowLines) (z : Sizes) (n k : ℕ) (b : List ℕ) : Type 0 where
   pub kind : f ≡ kindIn b
   pub row : s ≡ rowAt f
   pub sizes : z ≡ sizesOf f
@@ -117,12 +118,39 @@ pub record Right (f : Kind) (s : RowLines) (z : Sizes) (n k : ℕ) (b codes entr
   pub known : isUnknown f ≡ false
   pub sized : sizeBad b ≡ false
   pub long : lengthBad b ≡ false
-  pub none : codes ≡ zeros 322
-  pub also-none : entries ≡ zeros 272
+
+-- arrays of zeros for its codes, its entries and the digits beside its content
+pub record Blank (codes entries digits : List ℕ) : Type 0 where
+  pub codes-none : codes ≡ zeros 322
+  pub entries-none : entries ≡ zeros 272
+  pub digits-none : digits ≡ zeros 35
+
+-- arrays of these lengths
+pub record Long (codes entries digits : List ℕ) : Type 0 where
+  pub codes-long : length codes ≡ 322
+  pub entries-long : length entries ≡ 272
+  pub digits-long : length digits ≡ 35
+
+-- what is opened, but for what those arrays hold
+abbrev pub toldOf : Opened → Told
+toldOf o =
+    record { answer = o .answer; typenumber = o .fields .typenumber; codes = o .fields .codes; content = o .fields .content; time = o .fields .time; certificate = o .fields .certificate; signature = o .fields .signature }
+
+-- a packet of n codes, with this content and this certificate number, beside 0
+abbrev pub tells : List ℕ → ℕ → Content → List ℕ → Told
+tells b n c y =
+    record { answer = 0; typenumber = typeIn b; codes = n; content = c; time = at (bits b) (8 * (length b - 74)) 32; certificate = y; signature = run (bits b) (8 * (length b - 64)) 64 8 }
+
+-- what is opened, told and in arrays
+pub record Filled (o : Opened) (t : Told) (codes entries digits : List ℕ) : Type 0 where
+  pub told-is : t ≡ toldOf o
+  pub codes-are : codes ≡ o .codes
+  pub entries-are : entries ≡ o .entries
+  pub digits-are : digits ≡ o .fields .digits
 
 -- what its lines say, where they are due nothing
-pub record Lined (b : List ℕ) (answer : ℕ) (fields : Fields) (codes entries : List ℕ) : Type 0 where
-  pub due : answer ≡ first (drop 3 (readCases b))
-  pub said : answer ≡ 0 → (fields ≡ fieldsOf b) × (codes ≡ padded 322 (codesOf b)) × (entries ≡ padded 272 (cond (hasEntries (kindIn b)) (bodyIn b) []))
-  pub nothing : (answer ≡ 0 → ⊥) → fields ≡ noFields
-  pub long : (length codes ≡ 322) × (length entries ≡ 272)
+pub record Lined (b : List ℕ) (t : Told) (codes entries digits : List ℕ) : Type 0 where
+  pub due : t .answer ≡ readAnswer b
+  pub said : t .answer ≡ 0 → Filled (openedBy 0 b) t codes entries digits
+  pub nothing : (t .answer ≡ 0 → ⊥) → t ≡ toldOf (refusedAs (t .answer))
+  pub long : Long codes entries digits

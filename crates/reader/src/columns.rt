@@ -17,33 +17,29 @@ use packet::Lines;
 
 // The two halves of each of m bytes from byte k on, to out from `to` on; whether each is a digit.
 fn take_pairs(b: &[u8], k: usize, m: usize, out: &mut [u8], to: usize) -> bool
-    requires { ⌜ (k + m ≤ length (now b)) × (to + 2 * m ≤ length (now out)) ⌝ }
+    requires { ⌜ (k + m ≤ length (now b)) × (to + 2 * m ≤ length (now out)) × (k + m ≤ 60000) ⌝ }
     ensures { λ r. ⌜ (now (out .exit) ≡ sets (now (out .entry)) to (run (bits (now (b .entry))) (k * 8) (2 * m) 4)) × (r ≡ inside 0 9 (run (bits (now (b .entry))) (k * 8) (2 * m) 4)) ⌝ }
 {
-    let mut good = true;
+    let mut wrong: u32 = 0;
     let mut i = to;
     let mut j: usize = 0;
     while j < m {
-        let x = b[k + j];
+        let x = b[k + j] as u32;
         let high = x / 16;
         let low = x % 16;
-        out[i] = high;
-        out[i + 1] = low;
-        if high > 9 {
-            good = false;
-        }
-        if low > 9 {
-            good = false;
-        }
+        out[i] = high as u8;
+        out[i + 1] = low as u8;
+        // six more than a digit stays below sixteen
+        wrong += (high + 6) / 16 + (low + 6) / 16;
         i += 2;
         j += 1;
     }
-    good
+    wrong == 0
 }
 
 // c half bytes that end with byte e: where they are odd one by itself, then two a byte.
 pub(crate) fn take_digits(b: &[u8], e: usize, c: usize, out: &mut [u8], to: usize) -> bool
-    requires { ⌜ (c ≤ 2 * e) × (e ≤ length (now b)) × (to + c ≤ length (now out)) ⌝ }
+    requires { ⌜ (c ≤ 2 * e) × (e ≤ length (now b)) × (to + c ≤ length (now out)) × (e ≤ 60000) ⌝ }
     ensures { λ r. ⌜ (now (out .exit) ≡ sets (now (out .entry)) to (run (bits (now (b .entry))) (e * 8 - c * 4) c 4)) × (r ≡ inside 0 9 (run (bits (now (b .entry))) (e * 8 - c * 4) c 4)) ⌝ }
 {
     let m = c / 2;

@@ -4,9 +4,10 @@ mod parts;
 mod refusals;
 
 ghost use mathlib.Core.Path.{_≡_};
+ghost use Prim.Native.Nat.{_≤_};
 ghost use lib.ListN.{length};
-ghost use Rattle.packet.specs.Reading.{opened, readAnswer, noFields, zeros, textAnswer, textOf, bodyOf};
-ghost use Rattle.reader.specs.Taking.{Right, Lined};
+ghost use Rattle.packet.specs.Reading.{opened, refusedAs, readAnswer, zeros, textAnswer, textOf, bodyOf};
+ghost use Rattle.reader.specs.Taking.{Right, Blank, toldOf, tells, Filled, Lined};
 use packet::Content;
 use packet::Fields;
 use packet::Kind;
@@ -14,37 +15,49 @@ use packet::Opened;
 use packet::RowLines;
 use packet::Sizes;
 
-// All zero, the content raw.
-fn no_fields() -> Fields
-    ensures { λ r. ⌜ r ≡ noFields ⌝ }
+// What a packet says, but for its codes, its entries and the digits beside its content, which go to arrays.
+pub struct Told {
+    pub answer: u8,
+    pub typenumber: u8,
+    pub codes: usize,
+    pub content: Content,
+    pub time: u32,
+    pub certificate: [u8; 12],
+    pub signature: [u8; 64],
+}
+
+fn refused(a: u8) -> Told
+    ensures { λ r. ⌜ r ≡ toldOf (refusedAs a) ⌝ }
 {
-    let d = parts::zeros35();
     let y = parts::zeros12();
     let s = parts::zeros64();
-    Fields {
+    Told {
+        answer: a,
         typenumber: 0,
         codes: 0,
         content: Content::Raw,
-        digits: d,
         time: 0,
         certificate: y,
         signature: s,
     }
 }
 
-// The answer, and the fields.
-struct Told {
-    answer: u8,
-    fields: Fields,
-}
-
-fn refused(a: u8) -> Told
-    ensures { λ r. ⌜ r ≡ record { answer = a; fields = noFields } ⌝ }
+// What is told of a packet that is due nothing: n codes, this content and this certificate number.
+fn accepted(b: &[u8], n: usize, content: Content, certificate: [u8; 12]) -> Told
+    requires { ⌜ (77 ≤ length (now b)) × (length (now b) ≤ 250) ⌝ }
+    ensures { λ r. ⌜ r ≡ tells (now (b .entry)) n content certificate ⌝ }
 {
-    let f = no_fields();
+    let t = parts::type_in(b);
+    let x = parts::time(b);
+    let signature = parts::signature(b);
     Told {
-        answer: a,
-        fields: f,
+        answer: 0,
+        typenumber: t,
+        codes: n,
+        content: content,
+        time: x,
+        certificate: certificate,
+        signature: signature,
     }
 }
 
@@ -58,37 +71,21 @@ fn lines_told(
     b: &[u8],
     codes: &mut [u8],
     entries: &mut [u8],
+    digits: &mut [u8],
 ) -> Told
-    requires { ⌜ Right f s z n k (now b) (now codes) (now entries) ⌝ }
-    ensures { λ r. ⌜ Lined (now (b .entry)) (r .answer) (r .fields) (now (codes .exit)) (now (entries .exit)) ⌝ }
+    requires { ⌜ Right f s z n k (now b) × Blank (now codes) (now entries) (now digits) ⌝ }
+    ensures { λ r. ⌜ Lined (now (b .entry)) r (now (codes .exit)) (now (entries .exit)) (now (digits .exit)) ⌝ }
 {
-    let mut digits = parts::zeros35();
-    let mut certificate = parts::zeros12();
     let first = parts::take_codes(b, n, codes);
-    let c = parts::take_content(f, s, z, k, b, 24 + 96 * n, &mut digits, entries);
+    let c = parts::take_content(f, s, z, k, b, 24 + 96 * n, digits, entries);
+    let mut certificate = parts::zeros12();
     let good = columns::take_digits(b, b.len() - 64, 12, &mut certificate, 0);
     let content = c.content;
-    let frame = columns::least(first, refusals::digits_due(good));
-    let d = columns::least(frame, c.due);
-    let a = refusals::lines_answer(d, packet::no_such_day(content));
+    let a = refusals::lines_answer(first, good, c.due, packet::no_such_day(content));
     if a != 0 {
         return refused(a);
     }
-    let t = parts::type_in(b);
-    let x = parts::time(b);
-    let signature = parts::signature(b);
-    Told {
-        answer: 0,
-        fields: Fields {
-            typenumber: t,
-            codes: n,
-            content: content,
-            digits: digits,
-            time: x,
-            certificate: certificate,
-            signature: signature,
-        },
-    }
+    accepted(b, n, content, certificate)
 }
 
 // All zero.
@@ -103,10 +100,10 @@ fn wipe(out: &mut [u8])
     }
 }
 
-// What a packet says but for its codes and entries, which go to what is lent; nothing where it is refused.
-fn read_to(b: &[u8], codes: &mut [u8], entries: &mut [u8]) -> Told
-    requires { ⌜ (now codes ≡ zeros 322) × (now entries ≡ zeros 272) ⌝ }
-    ensures { λ r. ⌜ (r .answer ≡ opened (now (b .entry)) .answer) × (r .fields ≡ opened (now (b .entry)) .fields) × (now (codes .exit) ≡ opened (now (b .entry)) .codes) × (now (entries .exit) ≡ opened (now (b .entry)) .entries) ⌝ }
+// What a packet says, and its arrays; zeros stay where it is refused.
+fn filled(b: &[u8], codes: &mut [u8], entries: &mut [u8], digits: &mut [u8]) -> Told
+    requires { ⌜ Blank (now codes) (now entries) (now digits) ⌝ }
+    ensures { λ r. ⌜ Filled (opened (now (b .entry))) r (now (codes .exit)) (now (entries .exit)) (now (digits .exit)) ⌝ }
 {
     if refusals::size_bad(b) {
         return refused(20);
@@ -124,12 +121,31 @@ fn read_to(b: &[u8], codes: &mut [u8], entries: &mut [u8]) -> Told
     if refusals::length_bad(z, k, m) {
         return refused(26);
     }
-    let t = lines_told(f, s, z, n, k, b, codes, entries);
+    let t = lines_told(f, s, z, n, k, b, codes, entries, digits);
     if t.answer != 0 {
         wipe(codes);
         wipe(entries);
+        wipe(digits);
     }
     t
+}
+
+// What a packet says, as `read` does, with its arrays in those that are lent.
+pub fn read_to(
+    packet: &[u8],
+    codes: &mut [u8; 322],
+    entries: &mut [u8; 272],
+    digits: &mut [u8; 35],
+) -> Told
+    ensures told { λ r. ⌜ r ≡ toldOf (opened (now (packet .entry))) ⌝ }
+    ensures coded { λ _. ⌜ now (codes .exit) ≡ opened (now (packet .entry)) .codes ⌝ }
+    ensures listed { λ _. ⌜ now (entries .exit) ≡ opened (now (packet .entry)) .entries ⌝ }
+    ensures beside { λ _. ⌜ now (digits .exit) ≡ opened (now (packet .entry)) .fields .digits ⌝ }
+{
+    *codes = parts::zeros322();
+    *entries = parts::zeros272();
+    *digits = parts::zeros35();
+    filled(packet, codes, entries, digits)
 }
 
 // What a packet says, and 20, 23, 26, 24, 25 or 27 where it is none.
@@ -138,11 +154,22 @@ pub fn read(packet: &[u8]) -> Opened
 {
     let mut codes = parts::zeros322();
     let mut entries = parts::zeros272();
-    let t = read_to(packet, &mut codes, &mut entries);
-    let f = t.fields;
+    let mut digits = parts::zeros35();
+    let t = filled(packet, &mut codes, &mut entries, &mut digits);
+    let content = t.content;
+    let certificate = t.certificate;
+    let signature = t.signature;
     Opened {
         answer: t.answer,
-        fields: f,
+        fields: Fields {
+            typenumber: t.typenumber,
+            codes: t.codes,
+            content: content,
+            digits: digits,
+            time: t.time,
+            certificate: certificate,
+            signature: signature,
+        },
         codes: codes,
         entries: entries,
     }

@@ -242,11 +242,13 @@ pub(crate) fn take_content(
 }
 
 // ---- what follows the content
+// Four bytes at once: they are known to be there.
 pub(crate) fn time(b: &[u8]) -> u32
-    requires { ⌜ length (now b) ≤ 250 ⌝ }
+    requires { ⌜ 74 ≤ length (now b) ⌝ }
     ensures { λ r. ⌜ r ≡ at (bits (now (b .entry))) (8 * (length (now (b .entry)) - 74)) 32 ⌝ }
 {
-    format::field(b, 8 * minus(b.len(), 74), 32)
+    let k = b.len() - 74;
+    b[k] as u32 * 16777216 + b[k + 1] as u32 * 65536 + b[k + 2] as u32 * 256 + b[k + 3] as u32
 }
 
 pub(crate) fn signature(b: &[u8]) -> [u8; 64]

@@ -4,6 +4,8 @@ ghost use mathlib.Core.Bool.{not, cond};
 ghost use Prim.Native.Nat.{_+_, _*_, _<_, _≤_};
 ghost use lib.Dec.{eqb};
 ghost use Rattle.packet.specs.Reading.{unknownBy, sizeBad};
+ghost use Rattle.reader.specs.Due.{lesser, answerBy};
+use crate::columns;
 use crate::parts;
 use packet::Counting;
 use packet::Sizes;
@@ -46,16 +48,18 @@ pub(crate) fn length_bad(z: Sizes, k: usize, m: usize) -> bool
 }
 
 // 25: digits that are none; 255 where they all are.
-pub(crate) fn digits_due(good: bool) -> u8
+fn digits_due(good: bool) -> u8
     ensures { λ r. ⌜ r ≡ cond good 255 25 ⌝ }
 {
     if good { 255 } else { 25 }
 }
 
-// And then 24, 25 or 27: d is what the lines are due.
-pub(crate) fn lines_answer(d: u8, day: bool) -> u8
-    ensures { λ r. ⌜ r ≡ cond (eqb d 255) (cond day 27 0) d ⌝ }
+// And then 24, 25 or 27: what the lines of codes, certificate number and content are due, and the day.
+pub(crate) fn lines_answer(codes: u8, certificate: bool, content: u8, day: bool) -> u8
+    ensures { λ r. ⌜ r ≡ answerBy (lesser (lesser codes (cond certificate 255 25)) content) day ⌝ }
 {
+    let frame = columns::least(codes, digits_due(certificate));
+    let d = columns::least(frame, content);
     if d != 255 {
         return d;
     }

@@ -7,9 +7,10 @@ use native.Mathlib.Nat.{suc-mul, zero-mul, mul-assoc}
 use native.Mathlib.Numerals.{add-one}
 use native.Mathlib.Omega.{arith}
 use lib.ListN.{length, getD, set, take, drop, length-drop, drop-of-length-le}
+use lib.Bits.{and-mask}
 use lib.Seq.{sets, drop-drop, drop-cons, length-take-le, take-add, getD-take, getD-drop}
-use Rattle.laws.specs.Bits.{bits, bitsOf, spread}
-use Rattle.laws.proofs.Bits.{length-spread, spread-append}
+use Rattle.laws.specs.Bits.{at, bits, bitsOf, spread}
+use Rattle.laws.proofs.Bits.{length-bitsOf, under-bitsOf, length-spread, spread-append}
 use Rattle.laws.proofs.Cases.{if-yes}
 use Rattle.laws.proofs.Writes.{join}
 use Rattle.laws.specs.Strips.{strips}
@@ -17,6 +18,7 @@ use Rattle.laws.proofs.Strips.{row-below, strips-beside, strips-same, strips-wh
 use Rattle.format.specs.declared.Line.{Line}
 use Rattle.format.specs.Format.{own, size, need, encode, fill, times}
 use Rattle.format.proofs.Halves.{odd-place, pairs-put, bits-set}
+use Rattle.format.proofs.Within.{made, field-put}
 use Rattle.packet.specs.declared.Lines.{Lines}
 use Rattle.packet.specs.InCode.{linesIn}
 use Rattle.packet.proofs.Loops.{lines-cons, need-turn}
@@ -30,6 +32,18 @@ use Rattle.writer.proofs.ByColumn.{rows-bits, column-at}
 pub one-piece : (w : ℕ) (xs : List ℕ) (i : ℕ) → i < length xs → bitsOf w (getD xs i 0) ≡ spread w (take 1 (drop i xs))
 unfolding spread
 one-piece w xs i h = sym (rw (drop-cons xs i 0 h) (append-nil (bitsOf w (getD xs i 0))))
+
+-- one in the low half of a byte
+pub low-put : (o xs : List ℕ) (p i : ℕ) → p % 8 ≡ 4 → i < length xs → getD o (p / 8) 0 < 256 → bits (set o (p / 8) (getD o (p / 8) 0 / 16 * 16 + getD xs i 0 % 16)) ≡ sets (bits o) p (spread 4 (take 1 (drop i xs)))
+low-put o xs p i h l b =
+    let k = p / 8 in
+    let y = getD o k 0 in
+    let x = getD xs i 0 in
+    let q : k * 8 + 4 ≡ p = omega arith in
+    let e : y / 16 * 16 + x % 16 ≡ at (sets (bitsOf 8 y) 4 (bitsOf 4 x)) 0 8 = omega (arith, made y 4 4 x 15 0 (omega arith) b refl refl .is, and-mask x 4, and-mask y 0) in
+    ap (λ (z : ℕ). bits (set o k z)) e
+    ∙ field-put o k 4 (bitsOf 4 x) (under-bitsOf 4 x) (omega (arith, length-bitsOf 4 x))
+    ∙ ap₂ (λ (n : ℕ) (v : List ℕ). sets (bits o) n v) q (one-piece 4 xs i l)
 
 -- half bytes, two to a byte
 abbrev pub piece : ℕ → List ℕ → ℕ → List ℕ

@@ -1,7 +1,7 @@
 -- The loop that puts a line: how it starts, goes on and ends. Assumes nothing.
 use mathlib.Core.Path.{_≡_, refl, sym, ap, _∙_}
 use mathlib.Core.Bool.{Bool, true, false, cond}
-use mathlib.Core.List.{List, [], _∷_}
+use mathlib.Core.List.{List, [], _∷_, append-nil}
 use Prim.Native.Nat.{ℕ, _+_, _*_, _<_, _≤_}
 use native.Mathlib.Omega.{arith}
 use lib.ListN.{length, getD, drop, length-drop, length-replicate, getD-replicate, take}
@@ -47,6 +47,11 @@ value-one t xs i s h = part (t .given) refl
         let o : own t ≡ t .count = if-yes (t .count) 0 e in
         rw (e, one) (ap (take 1) (drop-cons xs i 0 (omega (arith, o, one, h))))
     part false e = rw (e, one)
+
+-- and its bits are those of that number
+pub bits-one : (t : Line) (xs : List ℕ) (i x : ℕ) → single t ≡ true → i + own t ≤ length xs → x ≡ cond (t .given) (getD xs i 0) (t .lo) → bitsOf (t .width) x ≡ spread (t .width) (valueOf t (drop i xs))
+unfolding spread
+bits-one t xs i x s h e = sym (rw (value-one t xs i s h, ← e) (append-nil (bitsOf (t .width) x)))
 
 pub record Going (out₀ : List ℕ) (p : ℕ) (t : Line) (xs : List ℕ) (i : ℕ) (out : List ℕ) (q j : ℕ) : Type 0 where
   pub within : j ≤ t .count

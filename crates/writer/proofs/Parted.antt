@@ -1,10 +1,10 @@
 -- The lines of a content's row in code, part by part, put into bits. Assumes nothing.
 use mathlib.Core.Path.{_≡_, refl, sym, ap, _∙_, subst}
-use mathlib.Core.List.{List, _++_, append-nil}
+use mathlib.Core.List.{List, [], _++_, append-nil}
 use Prim.Native.Nat.{ℕ, _+_, _-_, _*_, _<_, _≤_}
 use native.Mathlib.Omega.{arith}
 use lib.Dec.{ltb}
-use lib.ListN.{length, take}
+use lib.ListN.{length, take, drop}
 use lib.Seq.{length-take-le}
 use Rattle.format.specs.declared.Line.{Line}
 use Rattle.format.specs.Format.{size, need, encode, fill, times}
@@ -17,7 +17,7 @@ use Rattle.packet.specs.declared.Content.{Content}
 use Rattle.packet.specs.Table.{rowOf}
 use Rattle.packet.specs.Content.{kindFor, numbersOf}
 use Rattle.packet.specs.Reading.{hasEntries}
-use Rattle.packet.specs.InCode.{rowAt, linesIn, ownOf, besideOf}
+use Rattle.packet.specs.InCode.{rowAt, everyLine, linesIn, ownOf, besideOf}
 use Rattle.packet.specs.Writing.{rowFor, digitsBefore, frontFor, backFor}
 use Rattle.packet.proofs.Good.{good}
 use Rattle.packet.proofs.Contents.{numbers-long}
@@ -126,6 +126,13 @@ module _ (c : Content) where
         let g = good (kindFor c) in
         let n : s .after .numbers ≤ 35 = omega (arith, t .last-numbers, g .last) in
         can-put-rows (s .after) (rowFor c .after) (stands (kindFor c) h .last) 1 (s .after .numbers) (take (s .after .numbers - 0) ds) p (sym (t .last-numbers)) (omega arith) (omega (arith, g .rest)) (omega arith) (length-take-le (s .after .numbers - 0) ds (omega arith) ∙ omega arith) (omega arith)
+
+    -- or none
+    pub back-none : (ds out : List ℕ) (p : ℕ) → s .after .m ≡ 0 → After out out p (backBits c ds) p (size (rowFor c .after))
+    unfolding backBits encode size
+    back-none ds out p e =
+        let n : rowFor c .after ≡ [] = sym (stands (kindFor c) h .last .lines) ∙ ap (λ (m : ℕ). take m (drop (s .after .from) everyLine)) e in
+        rw n (record { put = refl; place = omega arith })
 
     pub back-put : (ds out last : List ℕ) (p r : ℕ) → After out last p (encode (times 1 (linesIn (s .after))) (fill (times 1 (linesIn (s .after))) (take (s .after .numbers - 0) ds))) r (1 * size (linesIn (s .after)))
         → After out last p (backBits c ds) r (size (rowFor c .after))

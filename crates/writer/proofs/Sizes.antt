@@ -2,7 +2,6 @@
 use mathlib.Core.Path.{_≡_, sym, ap, _∙_}
 use mathlib.Core.Bool.{Bool}
 use Prim.Native.Nat.{ℕ, _+_, _-_, _*_, _/_, _≤_}
-use native.Mathlib.Nat.{le-trans, mul-le-mul-left}
 use native.Mathlib.Omega.{arith}
 use lib.ListN.{length}
 use Rattle.format.specs.Format.{size, need}
@@ -16,7 +15,7 @@ use Rattle.packet.specs.Content.{kindFor, numbersOf}
 use Rattle.packet.specs.Reading.{sizesOf}
 use Rattle.packet.specs.Writing.{rowFor, digitsBefore, digitsAfter, lentBad}
 use Rattle.packet.proofs.Good.{good}
-use Rattle.packet.proofs.Bytes.{bytes-are}
+use Rattle.packet.proofs.Bytes.{bytes-are, bytes-most}
 use Rattle.packet.proofs.Contents.{numbers-long}
 use Rattle.writer.specs.Puts.{countLent}
 use Rattle.writer.specs.Parts.{bytesOf}
@@ -49,11 +48,8 @@ module _ (c : Content) (z : Sizes) (e : z ≡ sizesOf (kindFor c)) where
     pub bytes-for : (z .lead + k * z .each + z .rest) / 8 ≡ bytesOf c lent
     bytes-for = bytes-are (kindFor c) k (z .lead) (z .each) (z .rest) (ap (λ (x : Sizes). x .lead) e) each-is (ap (λ (x : Sizes). x .rest) e) ∙ ap (contentBytes (kindFor c)) q
 
-    pub bits-most : countLent c lent ≤ 2000 → (k * z .each ≤ 80000) × (z .lead ≤ 160) × (z .rest ≤ 96)
-    bits-most h =
-        let g = good (kindFor c) in
-        let a : z .each ≤ 40 = omega (arith, each-is, g .row) in
-        (le-trans (mul-le-mul-left k a) (omega arith), omega (arith, ap (λ (x : Sizes). x .lead) e, g .lead), omega (arith, ap (λ (x : Sizes). x .rest) e, g .rest))
+    pub bits-most : k ≤ 1000 → z .lead + k * z .each + z .rest ≤ 80263
+    bits-most h = omega (arith, bytes-for, bytes-most (kindFor c) (countLent c lent) (omega (arith, q)))
 
     -- its count against what is lent
     pub bad-by : (b : Bool) (s : Counting) → rowFor c .counting ≡ s → b ≡ lentBad s k (z .row) lent → b ≡ lentBad (rowFor c .counting) (countLent c lent) (need (rowFor c .each)) lent

@@ -19,10 +19,11 @@ use Rattle.packet.specs.declared.Counting.the-variants as counting
 use Rattle.packet.specs.declared.Content.{Content}
 use Rattle.packet.specs.Table.{countBy}
 use Rattle.packet.specs.declared.Fields.{Fields}
+use Rattle.packet.specs.declared.Written.{Written}
 use Rattle.packet.specs.Content.{partsOf, kindFor, countFor, noSuchDay}
 use Rattle.packet.proofs.Bytes.{bytes-least}
 use Rattle.packet.proofs.Contents.{content-known}
-use Rattle.packet.specs.Writing.{rowFor, sizeFor, tableFor, valuesFor, bytesFor, lentBad, otherType, bodyLost, digitsLost, countBad, digitBad, notTaken, writtenAnswer, written, packetOutput}
+use Rattle.packet.specs.Writing.{rowFor, sizeFor, tableFor, valuesFor, bytesFor, lentBad, otherType, bodyLost, digitsLost, countBad, digitBad, notTaken, writtenAnswer, writtenBy, written, packetOutput}
 use Rattle.writer.specs.Parts.{Lent, Writable, bytesOf}
 use Rattle.packet.proofs.Lent.{one-each, lent-enough, lent-by}
 use Rattle.writer.proofs.Taken.{good-counts}
@@ -107,22 +108,37 @@ bytes-put last out e p ul uo ue l h w =
     ∙ bytes-bits (bytes e ++ drop p out) (under-append 256 (bytes e) (drop p out) (under-run e 0 (length e / 8) 8 ue) (under-drop 256 p out uo))
     ∙ ap (λ (n : ℕ). bytes e ++ drop n out) (sym m)
 
--- ---- the ways out of `write`
-module _ (f : Fields) (codes body out : List ℕ) where
-  pub refused : (a : ℕ) → a ≡ writtenAnswer f codes body (length out) → (a ≡ 0 → ⊥) → (record { answer = a; length = 0 } ≡ written f codes body (length out)) × (out ≡ packetOutput f codes body out)
-  unfolding written packetOutput
-  refused a e n =
-      let w = not-written a (sizeFor f body) (bytesFor f codes body) out n in rw (← e) (sym (w .0), sym (w .1))
+-- ---- what `judged` gives
+answered : (a p : ℕ) (w : Written) → w ≡ writtenBy a p → (w .answer ≡ a) × (a ≡ 0 → w .length ≡ p)
+answered zero p w e = (ap (λ (x : Written). x .answer) e, λ z. ap (λ (x : Written). x .length) e)
+answered (suc a) p w e = (ap (λ (x : Written). x .answer) e, λ z. absurd (omega arith))
 
-  pub done : (d : length (f .digits) ≡ 35) (lc : length (f .certificate) ≡ 12) (ls : length (f .signature) ≡ 64) (last : List ℕ) (p : ℕ) → writtenAnswer f codes body (length out) ≡ 0 → Under 256 last → Under 256 out → p ≡ sizeFor f body
-      → bits last ≡ sets (bits out) 0 (encode (tableFor f body) (valuesFor f codes body)) → (record { answer = 0; length = p } ≡ written f codes body (length out)) × (last ≡ packetOutput f codes body out)
-  unfolding written packetOutput bytesFor
-  done d lc ls last p e ul uo ep w =
-      let g = passed f codes body (length out) e in
-      let h = writable f codes body (length out) g in
-      let r = g .room-enough in
-      let z = size-is f body in
-      let l = packet-long f codes body (h .counts) d lc ls in
-      let k = content-bits (f .content) body in
-      let m = ap (λ (n : ℕ). f .codes * n) code-size in
-      rw (e, ep) (refl, bytes-put last out (encode (tableFor f body) (valuesFor f codes body)) (sizeFor f body) ul uo (under-encode (tableFor f body) (valuesFor f codes body)) (omega arith) r w)
+module _ (f : Fields) (codes body out : List ℕ) (w : Written) (e : w ≡ written f codes body (length out)) where
+  said : (w .answer ≡ writtenAnswer f codes body (length out)) × (writtenAnswer f codes body (length out) ≡ 0 → w .length ≡ sizeFor f body)
+  unfolding written
+  said = answered (writtenAnswer f codes body (length out)) (sizeFor f body) w e
+
+  pub refused : (w .answer ≡ 0 → ⊥) → out ≡ packetOutput f codes body out
+  unfolding packetOutput
+  refused n =
+      sym (not-written (writtenAnswer f codes body (length out)) (sizeFor f body) (bytesFor f codes body) out (λ z. n (said .0 ∙ z)) .1)
+
+  module _ (z : w .answer ≡ 0) where
+    zero-answer : writtenAnswer f codes body (length out) ≡ 0
+    zero-answer = sym (said .0) ∙ z
+
+    pub ready : Writable f codes body × (w .length ≡ sizeFor f body) × (w .length ≤ length out)
+    ready =
+        let g = passed f codes body (length out) zero-answer in
+        let l = said .1 zero-answer in
+        (writable f codes body (length out) g, l, omega (arith, g .room-enough))
+
+    pub done : (d : length (f .digits) ≡ 35) (lc : length (f .certificate) ≡ 12) (ls : length (f .signature) ≡ 64) (last : List ℕ) → Under 256 last → Under 256 out → bits last ≡ sets (bits out) 0 (encode (tableFor f body) (valuesFor f codes body)) → last ≡ packetOutput f codes body out
+    unfolding packetOutput bytesFor
+    done d lc ls last ul uo b =
+        let g = ready in
+        let q = size-is f body in
+        let l = packet-long f codes body (g .0 .counts) d lc ls in
+        let k = content-bits (f .content) body in
+        let m = ap (λ (n : ℕ). f .codes * n) code-size in
+        rw zero-answer (bytes-put last out (encode (tableFor f body) (valuesFor f codes body)) (sizeFor f body) ul uo (under-encode (tableFor f body) (valuesFor f codes body)) (omega arith) (omega arith) b)

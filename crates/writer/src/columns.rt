@@ -115,13 +115,14 @@ pub(crate) fn put_pairs(out: &mut [u8], k: usize, m: usize, xs: &[u8], i: usize)
     }
 }
 
-// The one half byte before them, where their number is odd.
+// The one half byte before them, where their number is odd: the low half of its byte.
 fn put_odd(out: &mut [u8], p: usize, a: usize, xs: &[u8], i: usize)
-    requires { ⌜ (a < 2) × (p < 50000) × (i + a ≤ length (now xs)) ⌝ }
+    requires { ⌜ (a < 2) × ((p + 4 * a) % 8 ≡ 0) × (p + 4 * a ≤ 8 * length (now out)) × (i + a ≤ length (now xs)) ⌝ }
     ensures { λ _. ⌜ bits (now (out .exit)) ≡ sets (bits (now (out .entry))) p (spread 4 (take a (drop i (now (xs .entry))))) ⌝ }
 {
     if a == 1 {
-        format::put_field(out, p, 4, xs[i] as u32);
+        let k = p / 8;
+        out[k] = out[k] / 16 * 16 + xs[i] % 16;
     }
 }
 

@@ -1,6 +1,7 @@
 // A content put into bits: its numbers and digits, its count, its body.
 ghost use mathlib.Core.Path.{_≡_};
 ghost use Prim.Native.Nat.{_+_, _<_, _≤_};
+ghost use lib.ListN.{length};
 ghost use Rattle.packet.specs.Content.{kindFor, countFor};
 ghost use Rattle.packet.specs.InCode.{rowAt, ownOf, besideOf};
 ghost use Rattle.format.specs.Format.{size};
@@ -69,10 +70,10 @@ fn put_beside(
     c: Content,
     l: Laid,
     s: RowLines,
-    digits: [u8; 35],
+    digits: &[u8],
 ) -> usize
-    requires { ⌜ Known c l s × (bits ≡ size (besideOf (kindFor c))) × (p < 4000) ⌝ }
-    ensures { λ r. ⌜ After (now (out .entry)) (now (out .exit)) p (besideBits c digits) r (size (besideOf (kindFor c))) ⌝ }
+    requires { ⌜ Known c l s × (bits ≡ size (besideOf (kindFor c))) × (p < 4000) × (length (now digits) ≡ 35) ⌝ }
+    ensures { λ r. ⌜ After (now (out .entry)) (now (out .exit)) p (besideBits c (now (digits .entry))) r (size (besideOf (kindFor c))) ⌝ }
 {
     let before = s.before;
     let w = before.numbers - l.n;
@@ -87,11 +88,11 @@ fn put_front(
     c: Content,
     l: Laid,
     s: RowLines,
-    digits: [u8; 35],
+    digits: &[u8],
     k: usize,
 ) -> usize
-    requires { ⌜ Known c l s × (k ≤ 255) × (p < 3000) ⌝ }
-    ensures { λ r. ⌜ After (now (out .entry)) (now (out .exit)) p (frontBits c digits k) r (frontSize c k) ⌝ }
+    requires { ⌜ Known c l s × (k ≤ 255) × (p < 3000) × (length (now digits) ≡ 35) ⌝ }
+    ensures { λ r. ⌜ After (now (out .entry)) (now (out .exit)) p (frontBits c (now (digits .entry)) k) r (frontSize c k) ⌝ }
 {
     let before = s.before;
     let counting = s.counting;
@@ -113,26 +114,23 @@ fn put_body(out: &mut [u8], p: usize, c: Content, s: RowLines, k: usize, body: &
     }
 }
 
-// What stands behind it.
-fn put_back(out: &mut [u8], p: usize, c: Content, s: RowLines, digits: [u8; 35]) -> usize
-    requires { ⌜ (s ≡ rowAt (kindFor c)) × (p < 30000) ⌝ }
-    ensures { λ r. ⌜ After (now (out .entry)) (now (out .exit)) p (backBits c digits) r (size (rowFor c .after)) ⌝ }
+// What stands behind it, nothing in most contents.
+fn put_back(out: &mut [u8], p: usize, c: Content, s: RowLines, digits: &[u8]) -> usize
+    requires { ⌜ (s ≡ rowAt (kindFor c)) × (p < 30000) × (length (now digits) ≡ 35) ⌝ }
+    ensures { λ r. ⌜ After (now (out .entry)) (now (out .exit)) p (backBits c (now (digits .entry))) r (size (rowFor c .after)) ⌝ }
 {
     let after = s.after;
+    if after.m == 0 {
+        return p;
+    }
     let w = after.numbers;
     columns::put_rows(out, p, after, 1, after.bits, w, &digits[0..w])
 }
 
 // A whole content from bit p on; the place behind it.
-pub(crate) fn put_content(
-    out: &mut [u8],
-    p: usize,
-    c: Content,
-    digits: [u8; 35],
-    body: &[u8],
-) -> usize
-    requires { ⌜ Lent c (now body) × (p < 2000) ⌝ }
-    ensures { λ r. ⌜ After (now (out .entry)) (now (out .exit)) p (contentBits c digits (now (body .entry))) r (contentSize c (now (body .entry))) ⌝ }
+pub(crate) fn put_content(out: &mut [u8], p: usize, c: Content, digits: &[u8], body: &[u8]) -> usize
+    requires { ⌜ Lent c (now body) × (p < 2000) × (length (now digits) ≡ 35) ⌝ }
+    ensures { λ r. ⌜ After (now (out .entry)) (now (out .exit)) p (contentBits c (now (digits .entry)) (now (body .entry))) r (contentSize c (now (body .entry))) ⌝ }
 {
     let l = packet::lay(c);
     let kind = l.kind;

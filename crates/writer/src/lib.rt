@@ -18,17 +18,9 @@ pub fn write(fields: Fields, codes: &[u8], body: &[u8], out: &mut [u8]) -> Writt
     ensures answer { λ r. ⌜ r ≡ written fields (now (codes .entry)) (now (body .entry)) (length (now (out .entry))) ⌝ }
     ensures output { λ _. ⌜ now (out .exit) ≡ packetOutput fields (now (codes .entry)) (now (body .entry)) (now (out .entry)) ⌝ }
 {
-    let a = refusals::answer(fields, codes, body, out.len());
-    if a != 0 {
-        return Written {
-            answer: a,
-            length: 0,
-        };
+    let w = refusals::judged(fields, codes, body, out.len());
+    if w.answer == 0 {
+        packets::put_packet(fields, codes, body, w.length, out);
     }
-    let size = refusals::size_of(fields, body.len());
-    packets::put_packet(fields, codes, body, size, out);
-    Written {
-        answer: 0,
-        length: size,
-    }
+    w
 }

@@ -102,6 +102,6 @@ pub(crate) fn put_packet(f: Fields, codes: &[u8], body: &[u8], size: usize, out:
     let signature = f.signature;
     put_head(out, f.typenumber, size, f.codes);
     let q = put_codes(out, f.codes, codes);
-    let e = content::put_content(out, q, c, digits, body);
+    let e = content::put_content(out, q, c, &digits, body);
     put_ending(out, e, f.time, certificate, signature);
 }

@@ -1,15 +1,14 @@
 // The lines of a table put into bits: a line, lines, rows of lines.
 ghost use mathlib.Core.Path.{_≡_};
 ghost use mathlib.Core.Bool.{true, cond};
-ghost use Prim.Native.Nat.{_+_, _*_, _<_, _≤_};
-ghost use lib.ListN.{length, getD, drop};
-ghost use lib.Seq.{sets};
-ghost use Rattle.laws.specs.Bits.{bits, spread};
+ghost use Prim.Native.Nat.{_*_, _<_, _≤_};
+ghost use lib.ListN.{length, getD};
+ghost use Rattle.laws.specs.Bits.{spread};
 ghost use Rattle.format.specs.Format.{own, size, encode, fill, sound};
 ghost use Rattle.packet.specs.Table.{countLine};
 ghost use Rattle.packet.specs.InCode.{linesIn};
 ghost use mathlib.Core.List.{[]};
-ghost use Rattle.writer.specs.Puts.{valueOf, After, Puttable};
+ghost use Rattle.writer.specs.Puts.{After, Puttable};
 use format::Line;
 use packet::Counting;
 use packet::Lines;
@@ -23,23 +22,6 @@ pub(crate) fn number_of(t: Line, xs: &[u32], i: usize) -> u32
         if i < xs.len() { xs[i] } else { 0 }
     } else {
         t.lo
-    }
-}
-
-// A line from bit p on, with the numbers of xs from i on.
-fn put_each(out: &mut [u8], p: usize, t: Line, xs: &[u32], i: usize)
-    requires { ⌜ (sound t ≡ true) × (p < 50000) × (i + own t ≤ length (now xs)) × (length (now xs) ≤ 1000) ⌝ }
-    ensures { λ _. ⌜ bits (now (out .exit)) ≡ sets (bits (now (out .entry))) p (spread (t .width) (valueOf t (drop i (now (xs .entry))))) ⌝ }
-{
-    let n = t.count;
-    let w = t.width;
-    let mut q = p;
-    let mut j: usize = 0;
-    while j < n {
-        let x = number_of(t, xs, i + j);
-        format::put_field(out, q, w, x);
-        q += w;
-        j += 1;
     }
 }
 
@@ -82,8 +64,9 @@ pub(crate) fn put_lines(out: &mut [u8], p: usize, ts: Lines, xs: &[u32]) -> usiz
     let mut j: usize = 0;
     while j < m {
         let t = table::line_at(from + j);
-        put_each(out, q, t, xs, i);
-        q += width(t);
+        let x = number_of(t, xs, i);
+        format::put_field(out, q, t.width, x);
+        q += t.width;
         i += taken(t);
         j += 1;
     }

@@ -1,13 +1,13 @@
 // What is wrong with fields: the answers 23, 26, 25, 27, 20 and 10, in that order.
 ghost use mathlib.Core.Path.{_≡_};
-ghost use mathlib.Core.Bool.{not, _&&_, true, false};
+ghost use mathlib.Core.Bool.{not, cond, _&&_, true, false};
 ghost use Prim.Native.Nat.{_+_, _-_, _*_, _≤_};
 ghost use lib.ListN.{drop};
 ghost use Rattle.laws.specs.Refusals.{first};
 ghost use Rattle.format.specs.Format.{inside, need};
 ghost use Rattle.packet.specs.Content.{kindFor, noSuchDay};
 ghost use Rattle.packet.specs.Reading.{hasEntries};
-ghost use Rattle.packet.specs.Writing.{rowFor, lentBad, bodyLost, digitsLost, countBad, digitBad, notTaken, writeCases, writtenAnswer};
+ghost use Rattle.packet.specs.Writing.{rowFor, sizeFor, lentBad, bodyLost, digitsLost, countBad, digitBad, notTaken, writeCases, writtenBy, written};
 ghost use lib.Dec.{leb, ltb, eqb};
 ghost use mathlib.Core.Logic.{_⊎_};
 ghost use Rattle.writer.specs.Parts.{Lent, Counts, bytesOf, somethingLost, ownFine, rowsFine};
@@ -19,6 +19,7 @@ use crate::puts;
 use packet::Content;
 use packet::Counting;
 use packet::Fields;
+use packet::Written;
 
 // The greater of two.
 fn greater(a: u8, b: u8) -> u8
@@ -79,7 +80,12 @@ fn digits_fine(f: Fields, codes: &[u8], body: &[u8]) -> bool
     let c = f.content;
     let digits = f.digits;
     let certificate = f.certificate;
-    if !all_most(&digits, 9) {
+    // In two parts: a loop of a known length is written out, and takes the array apart.
+    let used = content::digits_used(c);
+    if !all_most(&digits[0..used], 9) {
+        return false;
+    }
+    if !all_most(&digits[used..35], 9) {
         return false;
     }
     if !all_most(codes, 9) {
@@ -139,16 +145,6 @@ fn lent_bad(c: Content, lent: usize) -> bool
         Counting::Raw => false,
         Counting::Unknown => false,
     }
-}
-
-// The bytes of a content, where a body of so many numbers is lent: those of its lines.
-fn content_bytes(c: Content, lent: usize) -> usize
-    requires { ⌜ (countLent c lent ≤ 2000) ⌝ }
-    ensures { λ r. ⌜ r ≡ bytesOf c lent ⌝ }
-{
-    let k = content::count_for(c, lent);
-    let z = table::sizes_of(content::kind_for(c));
-    (z.lead + k * z.each + z.rest) / 8
 }
 
 // n, k, m or t is above 255, or not that of what is lent.
@@ -218,56 +214,63 @@ fn content_taken(f: Fields, codes: &[u8], body: &[u8]) -> bool
     numbers_fine(c, body)
 }
 
-// The size of the packet.
-pub(crate) fn size_of(f: Fields, lent: usize) -> usize
-    requires { ⌜ (f .codes ≤ 255) × (countLent (f .content) lent ≤ 2000) ⌝ }
-    ensures { λ r. ⌜ r ≡ 77 + 12 * f .codes + bytesOf (f .content) lent ⌝ }
+// The size of the packet; 251, above any packet's, where a raw body is longer still.
+fn size_of(f: Fields, lent: usize) -> usize
+    requires { ⌜ f .codes ≤ 255 ⌝ }
+    ensures { λ r. ⌜ r ≡ cond (ltb 1000 (countLent (f .content) lent)) 251 (77 + 12 * f .codes + bytesOf (f .content) lent) ⌝ }
 {
     let c = f.content;
-    77 + 12 * f.codes + content_bytes(c, lent)
+    let k = content::count_for(c, lent);
+    if k > 1000 {
+        return 251;
+    }
+    let z = table::sizes_of(content::kind_for(c));
+    77 + 12 * f.codes + (z.lead + k * z.each + z.rest) / 8
 }
 
-// The packet would have over 250 bytes; a raw body may be of any length.
-fn too_long(f: Fields, lent: usize) -> bool
-    requires { ⌜ f .codes ≤ 255 ⌝ }
-    ensures { λ r. ⌜ r ≡ ltb 250 (77 + 12 * f .codes + bytesOf (f .content) lent) ⌝ }
+// Refused: nothing is written.
+fn refused(a: u8) -> Written
+    ensures { λ r. ⌜ r ≡ record { answer = a; length = 0 } ⌝ }
 {
-    let c = f.content;
-    if content::count_for(c, lent) > 1000 {
-        return true;
+    Written {
+        answer: a,
+        length: 0,
     }
-    250 < size_of(f, lent)
 }
 
 // What fields whose counts are right are due: 25, 27, 20 or 10.
-fn rest_answer(f: Fields, codes: &[u8], body: &[u8], room: usize) -> u8
+fn rest_answer(f: Fields, codes: &[u8], body: &[u8], room: usize) -> Written
     requires { ⌜ countBad f (now codes) (now body) ≡ false ⌝ }
-    ensures { λ r. ⌜ r ≡ first (drop 2 (writeCases f (now (codes .entry)) (now (body .entry)) room)) ⌝ }
+    ensures { λ r. ⌜ r ≡ writtenBy (first (drop 2 (writeCases f (now (codes .entry)) (now (body .entry)) room))) (sizeFor f (now (body .entry))) ⌝ }
 {
     if !digits_fine(f, codes, body) {
-        return 25;
+        return refused(25);
     }
     if !content_taken(f, codes, body) {
-        return 27;
+        return refused(27);
     }
-    if too_long(f, body.len()) {
-        return 20;
+    let size = size_of(f, body.len());
+    if size > 250 {
+        return refused(20);
     }
-    if room < size_of(f, body.len()) {
-        return 10;
+    if room < size {
+        return refused(10);
     }
-    0
+    Written {
+        answer: 0,
+        length: size,
+    }
 }
 
-// The writer's answer.
-pub(crate) fn answer(f: Fields, codes: &[u8], body: &[u8], room: usize) -> u8
-    ensures { λ r. ⌜ r ≡ writtenAnswer f (now (codes .entry)) (now (body .entry)) room ⌝ }
+// The writer's answer, and the size of what is to be written.
+pub(crate) fn judged(f: Fields, codes: &[u8], body: &[u8], room: usize) -> Written
+    ensures { λ r. ⌜ r ≡ written f (now (codes .entry)) (now (body .entry)) room ⌝ }
 {
     if table::not_written(f.typenumber) {
-        return 23;
+        return refused(23);
     }
     if counts_bad(f, codes, body) {
-        return 26;
+        return refused(26);
     }
     rest_answer(f, codes, body, room)
 }

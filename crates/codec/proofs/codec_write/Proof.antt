@@ -20,7 +20,7 @@ same-length c = search needs
 
 returns : tie.Need-returns
 returns c =
-    let a = c .before .before .before .before .before .before .before .before .args in
+    let a = c .before .before .before .before .before .before .before .before .before .args in
     let e = c .before .before .before .before .fields-from .ensures in (
       ap writtenAs (c .before .before .write .ensures .0 ∙ ap (λ (f : Fields). written f (now (a .codes)) (now (a .body)) (length (now (a .out)))) e),
       c .before .before .write .ensures .1 ∙ ap (λ (f : Fields). packetOutput f (now (a .codes)) (now (a .body)) (now (a .out))) e,

@@ -11,9 +11,10 @@ content-from-requires c κs = search needs
 
 returns : tie.Need-returns
 returns c =
-    let f = c .before .before .before .before .before .args .f in
-    let with-content : Content → Fields = λ p. record { typenumber = f .typenumber; codes = f .codes; content = p; digits = f .digits; time = f .time; certificate = f .certificate; signature = f .signature } in
-    ap with-content (c .before .before .before .content-from .ensures)
+    let a = c .before .before .before .before .args in
+    let f = a .f in
+    let with-content : Content → Fields = λ p. record { typenumber = f .typenumber; codes = f .codes; content = p; digits = a .digits; time = f .time; certificate = f .certificate; signature = f .signature } in
+    ap with-content (c .before .before .content-from .ensures)
 
 pub fields-from-spec : {M : Type 1} → statement M
 fields-from-spec = tie.close (tie.spec content-from-requires returns)

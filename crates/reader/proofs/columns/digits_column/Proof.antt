@@ -30,7 +30,8 @@ take-digits-requires : tie.Need-take-digits-requires Inv-loop μ-loop
 take-digits-requires c κs =
     let k = c .before .before .loop in
     let t = c .before .loop-test .taken in
-    (omega (arith, c .before .before .before .before .before .pre .enough, k .inv .1), omega (arith, c .before .before .before .before .before .pre .inside (k .j) t, k .inv .1), omega (arith, c .before .before .before .before .before .pre .room (k .j) t, k .inv .2, k .inv .3))
+    let a = c .before .before .before .before .before .args in
+    (omega (arith, c .before .before .before .before .before .pre .enough, k .inv .1), omega (arith, c .before .before .before .before .before .pre .inside (k .j) t, k .inv .1), omega (arith, c .before .before .before .before .before .pre .room (k .j) t, k .inv .2, k .inv .3), omega (arith, c .before .before .before .before .before .pre .near, k .inv .1, row-below (k .j) (a .n) (a .s) t))
 
 add-at : tie.Need-add-at Inv-loop μ-loop
 add-at c =

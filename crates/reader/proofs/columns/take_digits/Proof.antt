@@ -42,7 +42,7 @@ add-take-pairs c = search needs
 take-pairs-requires-2 : tie.Need-take-pairs-requires-2
 take-pairs-requires-2 c κs =
     let a = c .before .before .before .before .before .args in
-    (omega arith, omega (arith, length-set (now (a .out)) (a .to) (getD (now (a .b)) (a .e - a .c / 2 - 1) 0 % 16)))
+    (omega arith, omega (arith, length-set (now (a .out)) (a .to) (getD (now (a .b)) (a .e - a .c / 2 - 1) 0 % 16)), omega arith)
 
 same-length-2 : tie.Need-same-length-2
 same-length-2 c = c .before .before .before .take-pairs2 .kept .1 .1 .1 .0 ∙ length-set (now (c .before .before .before .before .before .before .before .before .before .args .out)) (c .before .before .before .before .before .before .before .before .before .args .to) (getD (now (c .before .before .before .before .before .before .before .before .before .args .b)) (c .before .before .before .before .before .before .before .before .before .args .e - c .before .before .before .before .before .before .before .before .before .args .c / 2 - 1) 0 % 16)

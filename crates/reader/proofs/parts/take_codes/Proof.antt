@@ -53,7 +53,7 @@ add-take-digits : tie.Need-add-take-digits Inv-loop μ-loop
 add-take-digits c = omega (arith, c .before .before .before .before .before .before .pre .0, c .before .before .before .loop .inv .1)
 
 take-digits-requires : tie.Need-take-digits-requires Inv-loop μ-loop
-take-digits-requires c κs = (omega (arith, c .before .before .before .before .loop .inv .1), omega (arith, c .before .before .before .before .before .before .before .pre .1, c .before .before .before .before .loop .inv .1), omega (arith, c .before .before .before .before .before .before .before .pre .0, c .before .before .before .before .before .before .before .pre .2, c .before .before .before .before .loop .inv .2, c .before .before .before .before .loop .inv .3))
+take-digits-requires c κs = (omega (arith, c .before .before .before .before .loop .inv .1), omega (arith, c .before .before .before .before .before .before .before .pre .1, c .before .before .before .before .loop .inv .1), omega (arith, c .before .before .before .before .before .before .before .pre .0, c .before .before .before .before .before .before .before .pre .2, c .before .before .before .before .loop .inv .2, c .before .before .before .before .loop .inv .3), omega (arith, c .before .before .before .before .before .before .before .pre .0, c .before .before .before .before .loop .inv .1))
 
 add-k : tie.Need-add-k Inv-loop μ-loop
 add-k c = omega (arith, c .before .before .before .before .before .before .before .before .before .before .before .pre .0, c .before .before .before .before .before .before .before .before .loop .inv .1)

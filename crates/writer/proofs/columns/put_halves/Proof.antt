@@ -11,7 +11,7 @@ use Rattle.writer.proofs.columns.put_halves.Statement.{statement}
 use Rattle.writer.proofs.columns.put_halves.Tie as tie
 
 put-odd-requires : tie.Need-put-odd-requires
-put-odd-requires c κs = let h = c .before .before .before .pre in (omega arith, h .2, omega (arith, h .4))
+put-odd-requires c κs = let h = c .before .before .before .pre in (omega arith, omega (arith, h .0), omega (arith, h .1), omega (arith, h .4))
 
 add-put-pairs : tie.Need-add-put-pairs
 add-put-pairs c = omega (arith, c .before .before .before .before .before .before .before .pre .2)

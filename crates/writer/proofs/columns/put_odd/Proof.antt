@@ -1,42 +1,45 @@
 -- `writer::columns::put_odd` meets its contract. Assumes nothing.
 use mathlib.Core.Path.{_≡_, sym, ap, _∙_}
-use Prim.Native.Nat.{ℕ}
+use Prim.Native.Nat.{ℕ, _/_}
 use native.Mathlib.Omega.{arith}
-use lib.ListN.{getD, take, drop}
+use lib.ListN.{take, drop}
 use lib.Seq.{sets}
 use denote.Ref.{now}
-use Rattle.laws.specs.Bits.{bits, bitsOf, spread}
-use Rattle.laws.proofs.Cases.{if-yes}
-use Rattle.format.proofs.Leaves.{reached}
-use Rattle.writer.proofs.Beside.{one-piece}
+use Rattle.laws.specs.Bits.{bits, spread}
+use Rattle.writer.proofs.Beside.{low-put}
 use borrow.Author.Needs.{needs}
 use Rattle.writer.proofs.columns.put_odd.Statement.{statement}
 use Rattle.writer.proofs.columns.put_odd.Tie as tie
 
-shared-slice-read-put-field : tie.Need-shared-slice-read-put-field
-shared-slice-read-put-field c = search needs
+slice-read-out : tie.Need-slice-read-out
+slice-read-out c = search needs
 
-cast-put-field : tie.Need-cast-put-field
-cast-put-field c = omega (arith, c .shared-slice-known2 .given (c .before .before .before .before .before .args .i))
+mul-out : tie.Need-mul-out
+mul-out c = omega (arith, c .slice-known .given (c .before .before .args .p / 8))
 
-put-field-requires : tie.Need-put-field-requires
-put-field-requires c κs = search needs
+shared-slice-read-out : tie.Need-shared-slice-read-out
+shared-slice-read-out c = search needs
+
+add-out : tie.Need-add-out
+add-out c = omega (arith, c .before .slice-known .given (c .before .before .before .args .p / 8))
+
+slice-write-out : tie.Need-slice-write-out
+slice-write-out c = search needs
 
 same-length : tie.Need-same-length
 same-length c = search needs
 
 returns : tie.Need-returns
 returns c =
-    let a = c .before .before .before .before .before .before .before .before .args in
-    let x = getD (now (a .xs)) (a .i) 0 in
-    let e : a .a ≡ 1 = c .before .before .before .before .before .if1 .taken in
-    c .before .before .put-field .ensures
-    ∙ ap (sets (bits (now (a .out))) (a .p)) (if-yes (bitsOf 4 x) _ (reached (a .p) 1 4 (omega arith) (omega arith) (omega arith)) ∙ one-piece 4 (now (a .xs)) (a .i) (omega arith) ∙ ap (λ (n : ℕ). spread 4 (take n (drop (a .i) (now (a .xs))))) (sym e))
+    let a = c .before .before .before .args in
+    let e : 1 ≡ a .a = sym (c .before .before .if1 .taken) in
+    low-put (now (a .out)) (now (a .xs)) (a .p) (a .i) (omega arith) (omega arith) (omega (arith, c .before .slice-known .given (a .p / 8)))
+    ∙ ap (λ (n : ℕ). sets (bits (now (a .out))) (a .p) (spread 4 (take n (drop (a .i) (now (a .xs)))))) e
 
 returns-2 : tie.Need-returns-2
 unfolding spread
 returns-2 c =
-    let a = c .before .before .before .args in
+    let a = c .before .args in
     let e : a .a ≡ 0 = omega arith in
     rw e
 
@@ -44,9 +47,11 @@ pub put-odd-spec : {M : Type 1} → statement M
 put-odd-spec =
     tie.close
     (tie.spec
-    shared-slice-read-put-field
-    cast-put-field
-    put-field-requires
+    slice-read-out
+    mul-out
+    shared-slice-read-out
+    add-out
+    slice-write-out
     same-length
     returns
     returns-2)

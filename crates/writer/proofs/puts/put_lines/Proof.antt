@@ -3,6 +3,7 @@ use Prim.Native.Nat.{_-_}
 use native.Mathlib.Omega.{arith}
 use lib.ListN.{take, drop}
 use Rattle.format.specs.Format.{octets}
+use Rattle.format.proofs.Sound.{sound-is}
 use Rattle.packet.specs.InCode.{everyLine, linesIn}
 use Rattle.packet.proofs.Loops as laws
 use Rattle.writer.proofs.Lines.{Going, going-first, turn-fits, going-turn, going-last}
@@ -25,33 +26,32 @@ add-line-at c = omega (arith, c .before .before .before .before .pre .few .1, la
 line-at-requires : tie.Need-line-at-requires Inv-loop μ-loop
 line-at-requires c κs = search needs
 
-put-each-requires : tie.Need-put-each-requires Inv-loop μ-loop
-put-each-requires c κs =
-    let ts = c .before .before .before .before .before .before .args .ts in
-    let h = c .before .before .before .before .before .before .pre in
-    let k = c .before .before .before .loop in
-    let t = c .before .line-at .result in
-    let u = laws.turn-at (ts .from) (ts .m) (k .j) t (h .few .1) (omega arith) (c .before .line-at .ensures) in
-    (u .good, omega (arith, k .inv .place, h .few .0, h .place), turn-fits (linesIn ts) (k .j) (octets 0) t (u .inside) (u .same) _ _ _ _ _ _ _ (k .inv), h .brief)
+number-of-requires : tie.Need-number-of-requires Inv-loop μ-loop
+number-of-requires c κs = search needs
 
-width-requires : tie.Need-width-requires Inv-loop μ-loop
-width-requires c κs =
-    let ts = c .before .before .before .before .before .before .before .before .before .args .ts in
-    laws.turn-at (ts .from) (ts .m) (c .before .before .before .before .before .before .loop .j) (c .before .before .before .before .line-at .result) (c .before .before .before .before .before .before .before .before .before .pre .few .1) (omega arith) (c .before .before .before .before .line-at .ensures) .good
+put-field-requires : tie.Need-put-field-requires Inv-loop μ-loop
+put-field-requires c κs = search needs
 
 add-q : tie.Need-add-q Inv-loop μ-loop
-add-q c = omega (arith, c .width .ensures .1, c .before .before .before .before .before .before .before .loop .inv .place, c .before .before .before .before .before .before .before .before .before .before .pre .few .0, c .before .before .before .before .before .before .before .before .before .before .pre .place)
+add-q c =
+    let ts = c .before .before .before .before .before .before .before .before .before .before .before .args .ts in
+    let h = c .before .before .before .before .before .before .before .before .before .before .before .pre in
+    let k = c .before .before .before .before .before .before .before .before .loop in
+    let t = c .before .before .before .before .before .before .line-at .result in
+    let u = laws.turn-at (ts .from) (ts .m) (k .j) t (h .few .1) (omega arith) (c .before .before .before .before .before .before .line-at .ensures) in
+    omega (arith, sound-is t (u .good) .narrow, k .inv .place, h .few .0, h .place)
 
 taken-requires : tie.Need-taken-requires Inv-loop μ-loop
 taken-requires c κs = search needs
 
 add-i : tie.Need-add-i Inv-loop μ-loop
 add-i c =
-    let ts = c .before .before .before .before .before .before .before .before .before .before .before .args .ts in
-    let k = c .before .before .before .before .before .before .before .before .loop in
-    let t = c .before .before .before .before .before .before .line-at .result in
-    let u = laws.turn-at (ts .from) (ts .m) (k .j) t (c .before .before .before .before .before .before .before .before .before .before .before .pre .few .1) (omega arith) (c .before .before .before .before .before .before .line-at .ensures) in
-    omega (arith, turn-fits (linesIn ts) (k .j) (octets 0) t (u .inside) (u .same) _ _ _ _ _ _ _ (k .inv), c .taken .ensures)
+    let ts = c .before .before .before .before .before .before .before .before .before .before .before .before .args .ts in
+    let h = c .before .before .before .before .before .before .before .before .before .before .before .before .pre in
+    let k = c .before .before .before .before .before .before .before .before .before .loop in
+    let t = c .before .before .before .before .before .before .before .line-at .result in
+    let u = laws.turn-at (ts .from) (ts .m) (k .j) t (h .few .1) (omega arith) (c .before .before .before .before .before .before .before .line-at .ensures) in
+    omega (arith, turn-fits (linesIn ts) (k .j) (octets 0) t (u .inside) (u .same) _ _ _ _ _ _ _ (k .inv), c .taken .ensures, h .brief)
 
 add-j : tie.Need-add-j Inv-loop μ-loop
 add-j c = search needs
@@ -61,11 +61,12 @@ loop-less c = omega arith
 
 loop-again : tie.Need-loop-again Inv-loop μ-loop
 loop-again c =
-    let ts = c .before .before .before .before .before .before .before .before .before .before .before .args .ts in
-    let k = c .before .before .before .before .before .before .before .before .loop in
-    let t = c .before .before .before .before .before .before .line-at .result in
-    let u = laws.turn-at (ts .from) (ts .m) (k .j) t (c .before .before .before .before .before .before .before .before .before .before .before .pre .few .1) (omega arith) (c .before .before .before .before .before .before .line-at .ensures) in
-    going-turn (linesIn ts) (k .j) (octets 0) t (u .inside) (u .same) (u .good) _ _ _ _ (k .out) (c .before .before .before .before .put-each .last .0) (k .q) (k .i) _ _ (omega arith) (k .inv) (c .before .before .before .before .put-each .ensures) (c .before .width .ensures .0) (c .taken .ensures)
+    let ts = c .before .before .before .before .before .before .before .before .before .before .before .before .args .ts in
+    let h = c .before .before .before .before .before .before .before .before .before .before .before .before .pre in
+    let k = c .before .before .before .before .before .before .before .before .before .loop in
+    let t = c .before .before .before .before .before .before .before .line-at .result in
+    let u = laws.turn-at (ts .from) (ts .m) (k .j) t (h .few .1) (omega arith) (c .before .before .before .before .before .before .before .line-at .ensures) in
+    going-turn (linesIn ts) (k .j) (octets 0) t (u .inside) (u .same) (u .good) (h .ones) _ _ _ _ (k .out) (c .before .before .before .before .put-field .last .0) (k .q) (k .i) (c .before .before .before .before .before .before .number-of .result) _ (omega arith) (k .inv) (omega (arith, k .inv .place, h .few .0, h .place)) (c .before .before .before .before .before .before .number-of .ensures) (c .before .before .before .before .put-field .ensures) (c .taken .ensures)
 
 same-length : tie.Need-same-length Inv-loop μ-loop
 same-length c = c .before .loop .inv .kept
@@ -84,8 +85,8 @@ put-lines-spec =
     loop-holds
     add-line-at
     line-at-requires
-    put-each-requires
-    width-requires
+    number-of-requires
+    put-field-requires
     add-q
     taken-requires
     add-i

@@ -1,12 +1,12 @@
--- `codec::told` meets its contract. Assumes nothing.
+-- `codec::content_told` meets its contract. Assumes nothing.
 use mathlib.Core.Path.{ap, _∙_}
 use Prim.Native.Nat.{ℕ}
 use Rattle.packet.specs.declared.Laid.{Laid}
 use Rattle.packet.specs.Table.{typeOf}
 use Rattle.codec.specs.declared.PlainContent.{PlainContent}
 use borrow.Author.Needs.{needs}
-use Rattle.codec.proofs.told.Statement.{statement}
-use Rattle.codec.proofs.told.Tie as tie
+use Rattle.codec.proofs.content_told.Statement.{statement}
+use Rattle.codec.proofs.content_told.Tie as tie
 
 lay-requires : tie.Need-lay-requires
 lay-requires c κs = search needs
@@ -21,5 +21,5 @@ returns c =
     let of-laid : Laid → PlainContent = λ x. record { kind = typeOf (x .kind); numbers = x .numbers; count = x .count } in
     ap with-kind (c .type-of .ensures) ∙ ap of-laid (c .before .before .lay .ensures)
 
-pub told-spec : {M : Type 1} → statement M
-told-spec = tie.close (tie.spec lay-requires type-of-requires returns)
+pub content-told-spec : {M : Type 1} → statement M
+content-told-spec = tie.close (tie.spec lay-requires type-of-requires returns)
