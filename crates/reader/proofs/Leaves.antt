@@ -2,12 +2,12 @@
 use mathlib.Core.Path.{_≡_, refl, sym, ap, ap₂, _∙_}
 use mathlib.Core.Bool.{Bool, true, false, cond, _&&_, and-true, and-false}
 use mathlib.Core.Logic.{_⊎_, ⊎-elim}
-use mathlib.Core.List.{List, [], _∷_, _++_, append-nil}
+use mathlib.Core.List.{List, [], _∷_}
 use Prim.Native.Nat.{ℕ, zero, suc, _+_, _-_, _*_, _/_, _%_, _<_, _≤_}
 use native.Mathlib.Nat.{suc-mul, mul-assoc}
 use native.Mathlib.Numerals.{add-one}
 use native.Mathlib.Omega.{arith}
-use lib.ListN.{length, getD, getD-replicate, set, drop-of-length-le}
+use lib.ListN.{getD, set}
 use lib.Seq.{sets}
 use lib.Dec.{leb, eqb}
 use borrow.Author.Tests.{le-leb, lt-leb, leb-true, leb-false, eq-eqb, ne-eqb, eqb-true, eqb-false}
@@ -17,11 +17,9 @@ use Rattle.laws.proofs.Cases.{if-yes, if-no, and-yes, and-no, and-both}
 use Rattle.laws.proofs.ByteFields.{at-parts}
 use Rattle.laws.proofs.Elements.{by-test}
 use Rattle.laws.proofs.Strips.{strips-same, every-same}
-use Rattle.laws.proofs.Writes.{from-front}
 use Rattle.format.specs.declared.Line.{Line}
 use Rattle.format.specs.Format.{inside, own}
 use Rattle.format.proofs.Sound.{sound-is}
-use Rattle.packet.specs.Reading.{zeros}
 use Rattle.packet.specs.Columns.{single, digitsLine, octetLine, column}
 use Rattle.reader.specs.Taking.{ownAt, Digits, Octets, Each, Column}
 use Rattle.format.proofs.Leaves.{run-done}
@@ -129,14 +127,6 @@ module _ (b : List ℕ) (e c x : ℕ) (h : c ≤ 2 * e) (i : c % 2 ≡ 1) (g : x
 
 pub digits-place : (e c s j u : ℕ) → c ≤ 2 * e → u ≡ e + j * s → u * 8 - c * 4 ≡ e * 8 - c * 4 + j * (s * 8)
 digits-place e c s j u h f = omega (arith, mul-assoc j s 8)
-
--- ---- as many numbers as there are, from the front
-pub over-all : (v l : List ℕ) → length v ≡ length l → sets l 0 v ≡ v
-over-all v l e = from-front v l (omega arith) ∙ ap (λ (r : List ℕ). v ++ r) (drop-of-length-le l {i = length v} (omega arith)) ∙ append-nil v
-
-pub zeros-at : (n i : ℕ) → i < n → getD (zeros n) i 0 ≡ 0
-unfolding zeros
-zeros-at n i h = getD-replicate n i 0 0 h
 
 -- pieces that are empty
 pub strips-none : (n : ℕ) (f : ℕ → List ℕ) (l : List ℕ) (i w : ℕ) → ((r : ℕ) → f r ≡ []) → strips l i w n f ≡ l

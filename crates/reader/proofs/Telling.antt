@@ -26,7 +26,7 @@ use Rattle.reader.specs.Due.{asked, passing, lesser, answerBy, Judged}
 use Rattle.packet.specs.declared.RowLines.{RowLines}
 use Rattle.packet.specs.declared.Sizes.{Sizes}
 use Rattle.reader.specs.declared.Told.{Told}
-use Rattle.reader.specs.Taking.{Holding, Beside, Right, Blank, Long, toldOf, tells, Filled}
+use Rattle.reader.specs.Taking.{Holding, Beside, Right, Blank, Long, toldOf, tells, Filled, Lined}
 use Rattle.reader.proofs.Due.{both, judged-same, line-fine, line-due, asked-some, asked-not, asked-cases}
 use Rattle.reader.proofs.Zeros.{full, kept, length-zeros}
 use Rattle.reader.proofs.Whole as whole
@@ -138,10 +138,6 @@ long-all codes entries digits o e d xs f k q b h p x =
       digits-long = kept 35 (zeros 35) d (drop (numbersIn f) (numbersAt (rowOf f .before) b q) ++ numbersAt (rowOf f .after) b (q + (partAt (rowOf f) + k * size (rowOf f .each)))) 0 (length-zeros 35 (zeros 35) refl) (x .digits-are);
     }
 
--- and so do those that are wiped
-pub wiped : (l z : List ℕ) (n m : ℕ) → z ≡ zeros n → n ≡ m → l ≡ zeros m → length z ≡ length l
-wiped l z n m e k h = length-zeros n z e ∙ k ∙ sym (length-zeros m l h)
-
 -- all that is told beside 0
 pub told-all : (b : List ℕ) (n : ℕ) (c : Content) (y : List ℕ) → n ≡ codesIn b → c ≡ contentIn b → y ≡ run (bits b) (8 * (length b - 70)) 12 4 → tells b n c y ≡ toldOf (openedBy 0 b)
 unfolding fieldsOf
@@ -162,6 +158,17 @@ unfolding noFields
 none-filled b a t codes entries digits e n g h =
     let o = opened-none b a e n in
     rw o record { told-is = g; codes-are = h .codes-none; entries-are = h .entries-none; digits-are = h .digits-none }
+
+-- a packet that is refused before its lines are looked at
+pub refused-lined : (b : List ℕ) (a : ℕ) (t : Told) (codes entries digits : List ℕ) → a ≡ readAnswer b → (a ≡ 0 → ⊥) → t ≡ toldOf (refusedAs a) → Blank codes entries digits → Lined b t codes entries digits
+refused-lined b a t codes entries digits e n g h =
+    let x : t .answer ≡ a = ap (λ (y : Told). y .answer) g in
+    record {
+      due = x ∙ e;
+      said = λ z. absurd (n (sym x ∙ z));
+      nothing = λ z. g ∙ ap (λ (y : ℕ). toldOf (refusedAs y)) (sym x);
+      long = record { codes-long = length-zeros 322 codes (h .codes-none); entries-long = length-zeros 272 entries (h .entries-none); digits-long = length-zeros 35 digits (h .digits-none) };
+    }
 
 -- what the lines say is what is opened beside 0
 pub all-filled : (b : List ℕ) (t : Told) (codes entries digits : List ℕ) → readAnswer b ≡ 0 → Filled (openedBy 0 b) t codes entries digits → Filled (opened b) t codes entries digits

@@ -6,8 +6,8 @@ mod refusals;
 ghost use mathlib.Core.Path.{_≡_};
 ghost use Prim.Native.Nat.{_≤_};
 ghost use lib.ListN.{length};
-ghost use Rattle.packet.specs.Reading.{opened, refusedAs, readAnswer, zeros, textAnswer, textOf, bodyOf};
-ghost use Rattle.reader.specs.Taking.{Right, Blank, toldOf, tells, Filled, Lined};
+ghost use Rattle.packet.specs.Reading.{opened, refusedAs, readAnswer, textAnswer, textOf, bodyOf};
+ghost use Rattle.reader.specs.Taking.{Right, Blank, toldOf, tells, Lined};
 use packet::Content;
 use packet::Fields;
 use packet::Kind;
@@ -88,22 +88,10 @@ fn lines_told(
     accepted(b, n, content, certificate)
 }
 
-// All zero.
-fn wipe(out: &mut [u8])
-    ensures { λ _. ⌜ now (out .exit) ≡ zeros (length (now (out .entry))) ⌝ }
-{
-    let n = out.len();
-    let mut i: usize = 0;
-    while i < n {
-        out[i] = 0;
-        i += 1;
-    }
-}
-
-// What a packet says, and its arrays; zeros stay where it is refused.
+// What a packet says, and its arrays, which are of no use where it is refused.
 fn filled(b: &[u8], codes: &mut [u8], entries: &mut [u8], digits: &mut [u8]) -> Told
     requires { ⌜ Blank (now codes) (now entries) (now digits) ⌝ }
-    ensures { λ r. ⌜ Filled (opened (now (b .entry))) r (now (codes .exit)) (now (entries .exit)) (now (digits .exit)) ⌝ }
+    ensures { λ r. ⌜ Lined (now (b .entry)) r (now (codes .exit)) (now (entries .exit)) (now (digits .exit)) ⌝ }
 {
     if refusals::size_bad(b) {
         return refused(20);
@@ -121,13 +109,7 @@ fn filled(b: &[u8], codes: &mut [u8], entries: &mut [u8], digits: &mut [u8]) -> 
     if refusals::length_bad(z, k, m) {
         return refused(26);
     }
-    let t = lines_told(f, s, z, n, k, b, codes, entries, digits);
-    if t.answer != 0 {
-        wipe(codes);
-        wipe(entries);
-        wipe(digits);
-    }
-    t
+    lines_told(f, s, z, n, k, b, codes, entries, digits)
 }
 
 // What a packet says, as `read` does, with its arrays in those that are lent.
@@ -145,7 +127,13 @@ pub fn read_to(
     *codes = parts::zeros322();
     *entries = parts::zeros272();
     *digits = parts::zeros35();
-    filled(packet, codes, entries, digits)
+    let t = filled(packet, codes, entries, digits);
+    if t.answer != 0 {
+        *codes = parts::zeros322();
+        *entries = parts::zeros272();
+        *digits = parts::zeros35();
+    }
+    t
 }
 
 // What a packet says, and 20, 23, 26, 24, 25 or 27 where it is none.
@@ -155,7 +143,7 @@ pub fn read(packet: &[u8]) -> Opened
     let mut codes = parts::zeros322();
     let mut entries = parts::zeros272();
     let mut digits = parts::zeros35();
-    let t = filled(packet, &mut codes, &mut entries, &mut digits);
+    let t = read_to(packet, &mut codes, &mut entries, &mut digits);
     let content = t.content;
     let certificate = t.certificate;
     let signature = t.signature;

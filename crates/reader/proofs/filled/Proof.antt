@@ -3,7 +3,7 @@ use mathlib.Core.Path.{_≡_, sym, ap, _∙_}
 use native.Mathlib.Omega.{arith}
 use denote.Ref.{now}
 use mathlib.Core.Bool.{false}
-use Rattle.packet.specs.Reading.{isUnknown, sizeBad, zeros}
+use Rattle.packet.specs.Reading.{isUnknown, sizeBad}
 use Rattle.reader.proofs.Zeros.{length-zeros}
 use Rattle.reader.proofs.Telling as telling
 use Rattle.reader.proofs.Whole as whole
@@ -20,7 +20,7 @@ refused-requires c κs = search needs
 returns : tie.Need-returns
 returns c =
     let b = now (c .before .before .before .before .before .before .before .args .b) in
-    telling.none-filled b 20 _ _ _ _ (whole.says-20 b (sym (c .before .before .size-bad .ensures) ∙ c .before .if1 .taken)) (λ e. omega arith) (c .refused .ensures) (c .before .before .before .before .before .before .before .pre)
+    telling.refused-lined b 20 _ _ _ _ (whole.says-20 b (sym (c .before .before .size-bad .ensures) ∙ c .before .if1 .taken)) (λ e. omega arith) (c .refused .ensures) (c .before .before .before .before .before .before .before .pre)
 
 kind-requires : tie.Need-kind-requires
 kind-requires c κs = search needs
@@ -39,7 +39,7 @@ returns-2 c =
     let b = now (c .before .before .before .before .before .before .before .before .before .before .before .args .b) in
     let sized : sizeBad b ≡ false = sym (c .before .before .before .before .before .before .size-bad .ensures) ∙ c .before .before .before .before .before .if1 .left in
     let by = whole.unknown-is (c .before .before .before .before .kind .result) _ _ (c .before .before .before .row-of .ensures) (c .before .before .unknown .ensures) ∙ ap isUnknown (c .before .before .before .before .kind .ensures) in
-    telling.none-filled b 23 _ _ _ _ (whole.says-23 b sized (sym by ∙ c .before .if2 .taken)) (λ e. omega arith) (c .refused2 .ensures) (c .before .before .before .before .before .before .before .before .before .before .before .pre)
+    telling.refused-lined b 23 _ _ _ _ (whole.says-23 b sized (sym by ∙ c .before .if2 .taken)) (λ e. omega arith) (c .refused2 .ensures) (c .before .before .before .before .before .before .before .before .before .before .before .pre)
 
 sizes-of-requires : tie.Need-sizes-of-requires
 sizes-of-requires c κs = search needs
@@ -80,7 +80,7 @@ returns-3 c =
     let by = whole.unknown-is (c .before .before .before .before .before .before .before .before .before .before .before .kind .result) _ _ (c .before .before .before .before .before .before .before .before .before .before .row-of .ensures) (c .before .before .before .before .before .before .before .before .before .unknown .ensures) ∙ ap isUnknown (c .before .before .before .before .before .before .before .before .before .before .before .kind .ensures) in
     let count = whole.count-here b (c .before .before .before .before .before .before .before .before .before .before .before .kind .result) _ _ _ _ (c .before .before .before .count-at .result) (c .before .before .before .before .before .before .before .before .before .before .before .kind .ensures) (c .before .before .before .before .before .before .before .before .before .before .row-of .ensures) (c .before .before .before .before .before .before .before .sizes-of .ensures) (c .before .before .before .before .before .before .codes-count .ensures .0) (c .before .before .before .before .before .content-size .ensures) (c .before .before .before .count-at .ensures) in
     let long = whole.long-here b (c .before .before .before .before .before .before .before .before .before .before .before .kind .result) (c .before .before .before .before .before .before .before .sizes-of .result) (c .before .before .before .count-at .result) (c .before .before .before .before .before .content-size .result) (c .before .before .length-bad .result) (c .before .before .before .before .before .before .before .before .before .before .before .kind .ensures) (c .before .before .before .before .before .before .before .sizes-of .ensures) count (c .before .before .before .before .before .content-size .ensures) (c .before .before .length-bad .ensures) in
-    telling.none-filled b 26 _ _ _ _ (whole.says-26 b sized (sym by ∙ c .before .before .before .before .before .before .before .before .if2 .left) (sym long ∙ c .before .if3 .taken)) (λ e. omega arith) (c .refused3 .ensures) (c .before .before .before .before .before .before .before .before .before .before .before .before .before .before .before .before .before .before .pre)
+    telling.refused-lined b 26 _ _ _ _ (whole.says-26 b sized (sym by ∙ c .before .before .before .before .before .before .before .before .if2 .left) (sym long ∙ c .before .if3 .taken)) (λ e. omega arith) (c .refused3 .ensures) (c .before .before .before .before .before .before .before .before .before .before .before .before .before .before .before .before .before .before .pre)
 
 lines-told-requires : tie.Need-lines-told-requires
 lines-told-requires c κs =
@@ -90,45 +90,17 @@ lines-told-requires c κs =
     let long = whole.long-here b (c .before .before .before .before .before .before .before .before .before .before .before .before .before .kind .result) (c .before .before .before .before .before .before .before .before .before .sizes-of .result) (c .before .before .before .before .before .count-at .result) (c .before .before .before .before .before .before .before .content-size .result) (c .before .before .before .before .length-bad .result) (c .before .before .before .before .before .before .before .before .before .before .before .before .before .kind .ensures) (c .before .before .before .before .before .before .before .before .before .sizes-of .ensures) count (c .before .before .before .before .before .before .before .content-size .ensures) (c .before .before .before .before .length-bad .ensures) in
     (record { kind = c .before .before .before .before .before .before .before .before .before .before .before .before .before .kind .ensures; row = c .before .before .before .before .before .before .before .before .before .before .before .before .row-of .ensures; sizes = c .before .before .before .before .before .before .before .before .before .sizes-of .ensures; many = c .before .before .before .before .before .before .before .before .codes-count .ensures .0; count = count; known = sym by ∙ c .before .before .before .before .before .before .before .before .before .before .if2 .left; sized = sym (c .before .before .before .before .before .before .before .before .before .before .before .before .before .before .before .size-bad .ensures) ∙ c .before .before .before .before .before .before .before .before .before .before .before .before .before .before .if1 .left; long = sym long ∙ c .before .before .before .if3 .left }, c .before .before .before .before .before .before .before .before .before .before .before .before .before .before .before .before .before .before .before .before .pre)
 
-wipe-requires : tie.Need-wipe-requires
-wipe-requires c κs = search needs
-
-wipe-requires-2 : tie.Need-wipe-requires-2
-wipe-requires-2 c κs = search needs
-
-wipe-requires-3 : tie.Need-wipe-requires-3
-wipe-requires-3 c κs = search needs
-
 same-length : tie.Need-same-length
-same-length c = telling.wiped (now (c .before .before .before .before .before .before .before .before .before .before .before .before .before .before .before .before .before .before .before .before .before .before .before .before .before .before .before .before .before .before .before .before .before .before .before .before .before .before .before .before .before .args .codes)) _ _ 322 (c .before .before .before .before .before .before .before .before .before .before .wipe .ensures) (c .before .before .before .before .before .before .before .before .before .before .before .before .before .before .before .before .before .before .before .before .lines-told .ensures .long .codes-long) (c .before .before .before .before .before .before .before .before .before .before .before .before .before .before .before .before .before .before .before .before .before .before .before .before .before .before .before .before .before .before .before .before .before .before .before .before .before .before .before .before .before .pre .codes-none)
+same-length c = c .before .before .before .before .before .before .lines-told .ensures .long .codes-long ∙ sym (length-zeros 322 _ (c .before .before .before .before .before .before .before .before .before .before .before .before .before .before .before .before .before .before .before .before .before .before .before .before .before .before .before .pre .codes-none))
 
 same-length-2 : tie.Need-same-length-2
-same-length-2 c = telling.wiped (now (c .before .before .before .before .before .before .before .before .before .before .before .before .before .before .before .before .before .before .before .before .before .before .before .before .before .before .before .before .before .before .before .before .before .before .before .before .before .before .before .before .before .args .entries)) _ _ 272 (c .before .before .before .before .before .before .wipe2 .ensures) (c .before .before .before .before .before .before .before .before .before .before .before .before .before .before .before .before .before .before .before .before .lines-told .ensures .long .entries-long) (c .before .before .before .before .before .before .before .before .before .before .before .before .before .before .before .before .before .before .before .before .before .before .before .before .before .before .before .before .before .before .before .before .before .before .before .before .before .before .before .before .before .pre .entries-none)
+same-length-2 c = c .before .before .before .before .before .before .lines-told .ensures .long .entries-long ∙ sym (length-zeros 272 _ (c .before .before .before .before .before .before .before .before .before .before .before .before .before .before .before .before .before .before .before .before .before .before .before .before .before .before .before .pre .entries-none))
 
 same-length-3 : tie.Need-same-length-3
-same-length-3 c = telling.wiped (now (c .before .before .before .before .before .before .before .before .before .before .before .before .before .before .before .before .before .before .before .before .before .before .before .before .before .before .before .before .before .before .before .before .before .before .before .before .before .before .before .before .before .args .digits)) _ _ 35 (c .before .before .wipe3 .ensures) (c .before .before .before .before .before .before .before .before .before .before .before .before .before .before .before .before .before .before .before .before .lines-told .ensures .long .digits-long) (c .before .before .before .before .before .before .before .before .before .before .before .before .before .before .before .before .before .before .before .before .before .before .before .before .before .before .before .before .before .before .before .before .before .before .before .before .before .before .before .before .before .pre .digits-none)
+same-length-3 c = c .before .before .before .before .before .before .lines-told .ensures .long .digits-long ∙ sym (length-zeros 35 _ (c .before .before .before .before .before .before .before .before .before .before .before .before .before .before .before .before .before .before .before .before .before .before .before .before .before .before .before .pre .digits-none))
 
 returns-4 : tie.Need-returns-4
-returns-4 c =
-    let l = c .before .before .before .before .before .before .before .before .before .before .before .before .before .before .before .before .before .before .before .before .lines-told .ensures in
-    let no = c .before .before .before .before .before .before .before .before .before .before .before .before .if4 .taken in
-    telling.none-filled (now (c .before .before .before .before .before .before .before .before .before .before .before .before .before .before .before .before .before .before .before .before .before .before .before .before .before .before .before .before .before .before .before .before .before .before .before .before .before .before .before .before .before .args .b)) _ _ _ _ _ (l .due) no (l .nothing no)
-    record { codes-none = c .before .before .before .before .before .before .before .before .before .before .wipe .ensures ∙ ap zeros (l .long .codes-long); entries-none = c .before .before .before .before .before .before .wipe2 .ensures ∙ ap zeros (l .long .entries-long); digits-none = c .before .before .wipe3 .ensures ∙ ap zeros (l .long .digits-long) }
-
-same-length-4 : tie.Need-same-length-4
-same-length-4 c = c .before .before .before .before .before .before .before .before .lines-told .ensures .long .codes-long ∙ sym (length-zeros 322 _ (c .before .before .before .before .before .before .before .before .before .before .before .before .before .before .before .before .before .before .before .before .before .before .before .before .before .before .before .before .before .pre .codes-none))
-
-same-length-5 : tie.Need-same-length-5
-same-length-5 c = c .before .before .before .before .before .before .before .before .lines-told .ensures .long .entries-long ∙ sym (length-zeros 272 _ (c .before .before .before .before .before .before .before .before .before .before .before .before .before .before .before .before .before .before .before .before .before .before .before .before .before .before .before .before .before .pre .entries-none))
-
-same-length-6 : tie.Need-same-length-6
-same-length-6 c = c .before .before .before .before .before .before .before .before .lines-told .ensures .long .digits-long ∙ sym (length-zeros 35 _ (c .before .before .before .before .before .before .before .before .before .before .before .before .before .before .before .before .before .before .before .before .before .before .before .before .before .before .before .before .before .pre .digits-none))
-
-returns-5 : tie.Need-returns-5
-returns-5 c =
-    let l = c .before .before .before .before .before .before .before .before .lines-told .ensures in
-    let zero = c .if4 .left in
-    telling.all-filled (now (c .before .before .before .before .before .before .before .before .before .before .before .before .before .before .before .before .before .before .before .before .before .before .before .before .before .before .before .before .before .args .b)) _ _ _ _ (sym (l .due) ∙ zero) (l .said zero)
+returns-4 c = c .before .before .before .before .before .before .lines-told .ensures
 
 pub filled-spec : {M : Type 1} → statement M
-filled-spec = tie.close (tie.spec size-bad-requires refused-requires returns kind-requires row-of-requires unknown-requires refused-requires-2 returns-2 sizes-of-requires codes-count-requires content-size-requires mul-count-at add-count-at add-count-at-2 count-at-requires length-bad-requires refused-requires-3 returns-3 lines-told-requires wipe-requires wipe-requires-2 wipe-requires-3 same-length same-length-2 same-length-3 returns-4 same-length-4 same-length-5 same-length-6 returns-5)
+filled-spec = tie.close (tie.spec size-bad-requires refused-requires returns kind-requires row-of-requires unknown-requires refused-requires-2 returns-2 sizes-of-requires codes-count-requires content-size-requires mul-count-at add-count-at add-count-at-2 count-at-requires length-bad-requires refused-requires-3 returns-3 lines-told-requires same-length same-length-2 same-length-3 returns-4)
