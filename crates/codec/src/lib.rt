@@ -3,6 +3,7 @@ ghost use mathlib.Core.Path.{_≡_};
 ghost use lib.ListN.{length};
 ghost use Rattle.packet.specs.Reading.{opened};
 ghost use Rattle.packet.specs.Writing.{written, packetOutput};
+ghost use Rattle.reader.specs.Taking.{unlessRefused};
 ghost use Rattle.codec.specs.Codec.{contentTold, toldAs, contentFrom, fieldsFrom, writtenAs};
 use packet::Content;
 use packet::Fields;
@@ -53,7 +54,8 @@ fn content_told(c: Content) -> PlainContent
     }
 }
 
-// What a packet says, as `reader::read` does; its codes, its entries and the digits beside its content in what is lent.
+// What a packet says, as `reader::read` does; its codes, its entries and the digits beside its content in what is lent,
+// which stays as it was where the packet is refused.
 #[no_mangle]
 pub extern "C" fn codec_read(
     packet: &[u8],
@@ -62,9 +64,9 @@ pub extern "C" fn codec_read(
     digits: &mut [u8; 35],
 ) -> PlainTold
     ensures told { λ r. ⌜ r ≡ toldAs (opened (now (packet .entry))) ⌝ }
-    ensures coded { λ _. ⌜ now (codes .exit) ≡ opened (now (packet .entry)) .codes ⌝ }
-    ensures listed { λ _. ⌜ now (entries .exit) ≡ opened (now (packet .entry)) .entries ⌝ }
-    ensures beside { λ _. ⌜ now (digits .exit) ≡ opened (now (packet .entry)) .fields .digits ⌝ }
+    ensures coded { λ _. ⌜ now (codes .exit) ≡ unlessRefused (opened (now (packet .entry))) (opened (now (packet .entry)) .codes) (now (codes .entry)) ⌝ }
+    ensures listed { λ _. ⌜ now (entries .exit) ≡ unlessRefused (opened (now (packet .entry))) (opened (now (packet .entry)) .entries) (now (entries .entry)) ⌝ }
+    ensures beside { λ _. ⌜ now (digits .exit) ≡ unlessRefused (opened (now (packet .entry))) (opened (now (packet .entry)) .fields .digits) (now (digits .entry)) ⌝ }
 {
     let t = reader::read_to(packet, codes, entries, digits);
     let c = t.content;

@@ -7,7 +7,7 @@ use native.Mathlib.Omega.{arith}
 use lib.ListN.{length, drop}
 use lib.Seq.{sets}
 use lib.Dec.{eqb}
-use borrow.Author.Tests.{eqb-true, eqb-false, ne-eqb}
+use borrow.Author.Tests.{eqb-true, eqb-false, eq-eqb, ne-eqb}
 use Rattle.laws.specs.Bits.{at, run, bits}
 use Rattle.laws.proofs.Bits.{length-run}
 use Rattle.laws.specs.Refusals.{first}
@@ -26,7 +26,7 @@ use Rattle.reader.specs.Due.{asked, passing, lesser, answerBy, Judged}
 use Rattle.packet.specs.declared.RowLines.{RowLines}
 use Rattle.packet.specs.declared.Sizes.{Sizes}
 use Rattle.reader.specs.declared.Told.{Told}
-use Rattle.reader.specs.Taking.{Holding, Beside, Right, Blank, Long, toldOf, tells, Filled, Lined}
+use Rattle.reader.specs.Taking.{Holding, Beside, Right, Blank, Long, toldOf, tells, unlessRefused, Filled, Lined}
 use Rattle.reader.proofs.Due.{both, judged-same, line-fine, line-due, asked-some, asked-not, asked-cases}
 use Rattle.reader.proofs.Zeros.{full, kept, length-zeros}
 use Rattle.reader.proofs.Whole as whole
@@ -152,13 +152,6 @@ pub opened-none : (b : List ℕ) (a : ℕ) → a ≡ readAnswer b → (a ≡ 0 �
 unfolding opened
 opened-none b a e n = not-opened (readAnswer b) b (λ h. n (e ∙ h)) ∙ ap refusedAs (sym e)
 
--- arrays of zeros are what is opened beside a number
-pub none-filled : (b : List ℕ) (a : ℕ) (t : Told) (codes entries digits : List ℕ) → a ≡ readAnswer b → (a ≡ 0 → ⊥) → t ≡ toldOf (refusedAs a) → Blank codes entries digits → Filled (opened b) t codes entries digits
-unfolding noFields
-none-filled b a t codes entries digits e n g h =
-    let o = opened-none b a e n in
-    rw o record { told-is = g; codes-are = h .codes-none; entries-are = h .entries-none; digits-are = h .digits-none }
-
 -- a packet that is refused before its lines are looked at
 pub refused-lined : (b : List ℕ) (a : ℕ) (t : Told) (codes entries digits : List ℕ) → a ≡ readAnswer b → (a ≡ 0 → ⊥) → t ≡ toldOf (refusedAs a) → Blank codes entries digits → Lined b t codes entries digits
 refused-lined b a t codes entries digits e n g h =
@@ -188,3 +181,18 @@ answered b = go (readAnswer b)
     go : (a : ℕ) → openedBy a b .answer ≡ a
     go zero = refl
     go (suc a) = refl
+
+-- ---- what an array that was lent holds then
+pub kept-so : (b : List ℕ) (a : ℕ) (opens held : List ℕ) → a ≡ readAnswer b → (a ≡ 0 → ⊥) → held ≡ unlessRefused (opened b) opens held
+kept-so b a opens held e n = sym (if-no opens held (ne-eqb (opened b .answer) 0 (λ z. n (e ∙ sym (answered b) ∙ z))))
+
+pub opens-so : (b x opens held : List ℕ) → readAnswer b ≡ 0 → x ≡ opens → x ≡ unlessRefused (opened b) opens held
+opens-so b x opens held e g = g ∙ sym (if-yes opens held (eq-eqb (opened b .answer) 0 (answered b ∙ e)))
+
+-- which is what is opened, where it was zeros
+pub either-way : (b x opens held : List ℕ) → x ≡ unlessRefused (opened b) opens held → ((readAnswer b ≡ 0 → ⊥) → held ≡ opens) → x ≡ opens
+either-way b x opens held g h = by-test (eqb (opened b .answer) 0) (λ t. g ∙ if-yes opens held t) (λ t. g ∙ if-no opens held t ∙ h (λ z. eqb-false (opened b .answer) 0 t (answered b ∙ z)))
+
+pub none-opened : (b : List ℕ) → (readAnswer b ≡ 0 → ⊥) → Blank (opened b .codes) (opened b .entries) (opened b .fields .digits)
+unfolding noFields
+none-opened b n = rw (opened-none b (readAnswer b) refl n) record { codes-none = refl; entries-none = refl; digits-none = refl }

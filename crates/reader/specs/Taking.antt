@@ -4,7 +4,7 @@ use mathlib.Core.Path.{_≡_}
 use mathlib.Core.Bool.{true, false, cond}
 use mathlib.Core.List.{List, [], _++_}
 use lib.ListN.{length, take, drop}
-use lib.Dec.{ltb}
+use lib.Dec.{eqb, ltb}
 use Rattle.laws.specs.Bits.{at, run, bits}
 use Rattle.laws.specs.Scan.{all}
 use Rattle.format.specs.declared.Line.{Line}
@@ -135,6 +135,10 @@ pub record Long (codes entries digits : List ℕ) : Type 0 where
 abbrev pub toldOf : Opened → Told
 toldOf o =
     record { answer = o .answer; typenumber = o .fields .typenumber; codes = o .fields .codes; content = o .fields .content; time = o .fields .time; certificate = o .fields .certificate; signature = o .fields .signature }
+
+-- what an array that was lent holds then: what is opened, or what it held where the packet is refused
+abbrev pub unlessRefused : Opened → List ℕ → List ℕ → List ℕ
+unlessRefused o opens held = cond (eqb (o .answer) 0) opens held
 
 -- a packet of n codes, with this content and this certificate number, beside 0
 abbrev pub tells : List ℕ → ℕ → Content → List ℕ → Told

@@ -7,7 +7,7 @@ ghost use mathlib.Core.Path.{_≡_};
 ghost use Prim.Native.Nat.{_≤_};
 ghost use lib.ListN.{length};
 ghost use Rattle.packet.specs.Reading.{opened, refusedAs, readAnswer, textAnswer, textOf, bodyOf};
-ghost use Rattle.reader.specs.Taking.{Right, Blank, toldOf, tells, Lined};
+ghost use Rattle.reader.specs.Taking.{Right, Blank, toldOf, tells, unlessRefused, Lined};
 use packet::Content;
 use packet::Fields;
 use packet::Kind;
@@ -112,7 +112,7 @@ fn filled(b: &[u8], codes: &mut [u8], entries: &mut [u8], digits: &mut [u8]) -> 
     lines_told(f, s, z, n, k, b, codes, entries, digits)
 }
 
-// What a packet says, as `read` does, with its arrays in those that are lent.
+// What a packet says, as `read` does, with its arrays in those that are lent, which stay as they were where it is refused.
 pub fn read_to(
     packet: &[u8],
     codes: &mut [u8; 322],
@@ -120,18 +120,21 @@ pub fn read_to(
     digits: &mut [u8; 35],
 ) -> Told
     ensures told { λ r. ⌜ r ≡ toldOf (opened (now (packet .entry))) ⌝ }
-    ensures coded { λ _. ⌜ now (codes .exit) ≡ opened (now (packet .entry)) .codes ⌝ }
-    ensures listed { λ _. ⌜ now (entries .exit) ≡ opened (now (packet .entry)) .entries ⌝ }
-    ensures beside { λ _. ⌜ now (digits .exit) ≡ opened (now (packet .entry)) .fields .digits ⌝ }
+    ensures coded { λ _. ⌜ now (codes .exit) ≡ unlessRefused (opened (now (packet .entry))) (opened (now (packet .entry)) .codes) (now (codes .entry)) ⌝ }
+    ensures listed { λ _. ⌜ now (entries .exit) ≡ unlessRefused (opened (now (packet .entry))) (opened (now (packet .entry)) .entries) (now (entries .entry)) ⌝ }
+    ensures beside { λ _. ⌜ now (digits .exit) ≡ unlessRefused (opened (now (packet .entry))) (opened (now (packet .entry)) .fields .digits) (now (digits .entry)) ⌝ }
 {
+    let c = *codes;
+    let e = *entries;
+    let d = *digits;
     *codes = parts::zeros322();
     *entries = parts::zeros272();
     *digits = parts::zeros35();
     let t = filled(packet, codes, entries, digits);
     if t.answer != 0 {
-        *codes = parts::zeros322();
-        *entries = parts::zeros272();
-        *digits = parts::zeros35();
+        *codes = c;
+        *entries = e;
+        *digits = d;
     }
     t
 }
