@@ -1,5 +1,5 @@
 -- The law of `first`: a number is answered exactly when its case holds and no case before it does. Assumes nothing.
-use mathlib.Core.Path.{◌≡◌, refl, sym, ap, ◌∙◌}
+use mathlib.Core.Path.{◌≡◌, refl, sym, ap, ◌∙◌, subst}
 use mathlib.Core.Logic.{◌↔◌, ◌⊎◌, inl, inr, ⊎_elim}
 use mathlib.Core.Bool.{Bool, true, false, cond, not, ◌&&◌, true≢false, or-true}
 use mathlib.Core.List.{List, [], ◌∷◌}
@@ -26,9 +26,11 @@ listed [] = inl refl
 listed (c ∷ cs) = by c.0 refl (listed cs)
   where
     by : (t : Bool) → c.0 ≡ t → (first cs ≡ 0) ⊎ (among (first cs) cs ≡ true) → (cond c.0 c.1 (first cs) ≡ 0) ⊎ (among (cond c.0 c.1 (first cs)) (c ∷ cs) ≡ true)
-    by true e l = inr (rw e (at_among (c ∷ cs) 0 (omega arith)))
+    by true e l =
+        inr (subst (λ (x : ℕ). among x (c ∷ cs) ≡ true) (sym (if_yes c.1 (first cs) e)) (at_among (c ∷ cs) 0 (omega arith)))
     by false e (inl z) = inl (rw e z)
-    by false e (inr m) = inr (rw (e, m, or-true))
+    by false e (inr m) =
+        inr (subst (λ (x : ℕ). among x (c ∷ cs) ≡ true) (sym (if_no c.1 (first cs) e)) (rw (m, or-true)))
 
 -- what apart says of the list's head: its number is not 0, and none of the rest has it
 not_later : (n : ℕ) (cs : List Case) → (not (eqb n 0) && not (among n cs)) ≡ true → first cs ≡ n → ⊥
