@@ -1,4 +1,6 @@
 // The on-air writer: a packet as frames, each frame as 13 bytes on air.
+#![tactic(auto)]
+
 ghost use Rattle.std.specs.Prelude.{◌≡◌, ◌+◌, ◌*◌, ◌<◌, ◌≤◌, ◌^◌, length};
 ghost use Rattle.std.proofs.lemmas.List.Edits.{sets};
 ghost use Rattle.block.specs.Block.{offset_of, check_word};
@@ -12,7 +14,7 @@ use block::Letter;
 use frame::{Heading, Number, Total};
 
 // What the on-air writer gives back: its answer, and how many frames it wrote.
-#[derive(Drop)]
+#[derive(Clone, Copy)]
 pub struct Aired {
     pub answer: u8,
     pub frames: usize,

@@ -8,7 +8,7 @@ use crate::{input, say};
 use collector::{Holding, Holdings, Total};
 use receiver::Receiver;
 
-#[derive(Drop)]
+#[derive(Clone, Copy)]
 pub(crate) struct Kept {
     pub receiver: Receiver,
     pub collector: Holdings,

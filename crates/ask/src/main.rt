@@ -5,6 +5,8 @@
 // packet; N begins with a fresh receiver and an empty collector, S and H put a receiver's record and a collector's place as they are given;
 // # only names what comes. The modules say what follows a letter. All numbers are given high byte first. The input is as much as is read at
 // once, 65536 bytes.
+#![tactic(auto)]
+
 mod commanding;
 mod deciding;
 mod input;

@@ -1,4 +1,6 @@
 // From samples on standard input to packed bits on standard output: each number eight bytes, high first, 32 numbers a symbol, a bit a symbol.
+#![tactic(auto)]
+
 ghost use Rattle.std.specs.Prelude.{◌≡◌, ◌+◌, ◌≤◌, length};
 ghost use Rattle.std.proofs.lemmas.List.Edits.{sets};
 ghost use Rattle.laws.specs.Bits.{bits};
@@ -9,7 +11,7 @@ use libc::{STDERR_FILENO, STDIN_FILENO, STDOUT_FILENO};
 use samples::{Pair, Verdict};
 
 // The state so far, how many symbols were taken, the answer that ended the run, whether the input ended inside a symbol, and whether it has ended.
-#[derive(Drop)]
+#[derive(Clone, Copy)]
 struct Packing {
     state: Pair,
     symbols: u64,
@@ -19,7 +21,7 @@ struct Packing {
 }
 
 // What a piece gave: the state behind it, how many of its symbols were taken, and the answer to the next one, 0 where there is none.
-#[derive(Drop)]
+#[derive(Clone, Copy)]
 struct Taken {
     state: Pair,
     symbols: usize,

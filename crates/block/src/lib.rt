@@ -1,10 +1,12 @@
 // Blocks of 26 bits: sixteen of information, then ten of check.
+#![tactic(auto)]
+
 ghost use Rattle.std.specs.Prelude.{◌≡◌, ◌*◌, ◌^◌};
 ghost use Rattle.block.specs.Block.{syndrome, check_word, offset_of};
 ghost use Rattle.block.specs.Letters.{one, word_of, likely_of, letter_with, letter_of, place_of};
 
 // Which of a frame's four blocks: the first is A.
-#[derive(Drop)]
+#[derive(Clone, Copy)]
 pub enum Letter {
     A,
     B,
@@ -61,7 +63,7 @@ pub fn remainder_of(info: u16) -> u16
 }
 
 // What 26 bits carry: the block of one of the five letters that the standard knows, or none. A frame of ours has no C'.
-#[derive(Drop)]
+#[derive(Clone, Copy)]
 pub enum Carried {
     None,
     A,

@@ -1,4 +1,6 @@
 // A pier board: it hears frames in any order, with repeats, and shows each text once every frame of every part of it came.
+#![tactic(auto)]
+
 ghost use Rattle.std.specs.Prelude.{◌≡◌, cond, length, eqb};
 ghost use Rattle.collector.specs.Layout.{offer_gives};
 ghost use Rattle.stories.specs.Stories.{taken_output};
@@ -8,14 +10,14 @@ use collector::{Holdings, Outcome};
 use stories::Stories;
 
 // What a board keeps: the packets being collected, and the stories that it waits for.
-#[derive(Drop)]
+#[derive(Clone, Copy)]
 pub struct Board {
     pub collector: Holdings,
     pub stories: Stories,
 }
 
 // What hearing a frame gives back: its answer; beside 1 the text's length, level, parts and message number; the board then.
-#[derive(Drop)]
+#[derive(Clone, Copy)]
 pub struct Heard {
     pub answer: u8,
     pub length: usize,

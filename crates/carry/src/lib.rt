@@ -1,4 +1,6 @@
 // A clock or a resource command of the sister band as the content of our packets of type 3 or 1, and back.
+#![tactic(auto)]
+
 ghost use Rattle.std.specs.Prelude.{◌≡◌, ◌≤◌, length};
 ghost use Rattle.std.proofs.lemmas.List.Edits.{sets};
 ghost use Rattle.packet.specs.Reading.{zeros};

@@ -1,4 +1,6 @@
 // The packet reader and the packet writer for programs in C: the same functions, the content in a record as C lays it out.
+#![tactic(auto)]
+
 ghost use Rattle.std.specs.Prelude.{◌≡◌, length};
 ghost use Rattle.packet.specs.Reading.{opened};
 ghost use Rattle.packet.specs.Writing.{written, packet_output};
@@ -9,7 +11,7 @@ use packet::{Content, Fields};
 
 // A content: the type that names its kind, 4 for a raw one; its numbers in the order of its lines, then zeros; its count.
 #[repr(C)]
-#[derive(Drop)]
+#[derive(Clone, Copy)]
 pub struct PlainContent {
     pub kind: u8,
     pub numbers: [u32; 6],
@@ -18,7 +20,7 @@ pub struct PlainContent {
 
 // Fields of a packet but for the digits beside its content, which are lent.
 #[repr(C)]
-#[derive(Drop)]
+#[derive(Clone, Copy)]
 pub struct PlainFields {
     pub typenumber: u8,
     pub codes: usize,
@@ -30,7 +32,7 @@ pub struct PlainFields {
 
 // The reader's answer, and the fields beside it.
 #[repr(C)]
-#[derive(Drop)]
+#[derive(Clone, Copy)]
 pub struct PlainTold {
     pub answer: u8,
     pub fields: PlainFields,
@@ -38,7 +40,7 @@ pub struct PlainTold {
 
 // The writer's answer, and how many bytes it wrote.
 #[repr(C)]
-#[derive(Drop)]
+#[derive(Clone, Copy)]
 pub struct PlainWritten {
     pub answer: u8,
     pub length: usize,

@@ -1,5 +1,7 @@
 // The collector: frames in any order, with repeats, become packets; a pair is declared whole or spoiled once, and again only if a
 // contradiction cleared it.
+#![tactic(auto)]
+
 ghost use Rattle.std.specs.Prelude.{◌≡◌, true, ◌&&◌, ◌+◌, ◌<◌, length, drop};
 ghost use Rattle.laws.specs.Scan.{all};
 ghost use Rattle.collector.specs.Places.{Small, pairs_apart};
@@ -12,7 +14,7 @@ mod whole;
 pub use frame::{Heading, Number, Total};
 
 // Room for one packet: the pair and total that it is held for, bit k for each number k held (the top bit is 0), and the bytes.
-#[derive(Drop)]
+#[derive(Clone, Copy)]
 pub struct Holding {
     pub held: bool,
     pub level: u8,
@@ -23,20 +25,20 @@ pub struct Holding {
 }
 
 // The packets being collected.
-#[derive(Drop)]
+#[derive(Clone, Copy)]
 pub struct Holdings {
     pub places: [Holding; 4],
 }
 
 // What an offer or a release gives back: its answer, and the holdings then.
-#[derive(Drop)]
+#[derive(Clone, Copy)]
 pub struct Outcome {
     pub answer: u8,
     pub collector: Holdings,
 }
 
 // A place as people read it, with 63 marks: the definitions speak of it, and a holding is seen as one. No function takes it.
-#[derive(Drop)]
+#[derive(Clone, Copy)]
 pub struct Place {
     pub held: bool,
     pub level: u8,
@@ -47,13 +49,13 @@ pub struct Place {
 }
 
 // Four of them.
-#[derive(Drop)]
+#[derive(Clone, Copy)]
 pub struct Collector {
     pub places: [Place; 4],
 }
 
 // What an accepted frame says: its heading, and four bytes of packet.
-#[derive(Drop)]
+#[derive(Clone, Copy)]
 pub struct Piece {
     pub heading: Heading,
     pub a: u8,
@@ -63,14 +65,14 @@ pub struct Piece {
 }
 
 // An answer, and the collector then.
-#[derive(Drop)]
+#[derive(Clone, Copy)]
 pub struct Offered {
     pub answer: u8,
     pub collector: Collector,
 }
 
 // What a copy gives back: its answer, and how many bytes it wrote.
-#[derive(Drop)]
+#[derive(Clone, Copy)]
 pub struct Copied {
     pub answer: u8,
     pub length: usize,

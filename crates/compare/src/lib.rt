@@ -1,4 +1,6 @@
 // Two shelves compared: a line for each record that differs or that only one has, and a last line with their number.
+#![tactic(auto)]
+
 ghost use Rattle.std.specs.Prelude.{◌≡◌, [], ◌∷◌, ◌+◌, ◌*◌, ◌≤◌, length};
 ghost use Rattle.std.proofs.lemmas.List.Edits.{sets};
 ghost use Rattle.compare.specs.Differences.{differs, only, first_byte, of_both, of_record, below, longer};
@@ -6,7 +8,7 @@ ghost use Rattle.compare.specs.Texts.{phrase, text_of, Further};
 ghost use Rattle.compare.specs.Compare.{compared, compared_into};
 
 // What is said of a comparison: the answer, whether it is the right shelf that is refused, and how many bytes were written.
-#[derive(Drop)]
+#[derive(Clone, Copy)]
 pub struct Compared {
     pub answer: u8,
     pub right: bool,
@@ -14,7 +16,7 @@ pub struct Compared {
 }
 
 // How far the list has come: the byte behind its last line, and how many lines it has.
-#[derive(Drop)]
+#[derive(Clone, Copy)]
 struct Listing {
     at: usize,
     lines: usize,

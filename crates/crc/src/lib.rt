@@ -1,4 +1,6 @@
 // The packet check: CRC-16 CCITT-FALSE.
+#![tactic(auto)]
+
 ghost use Rattle.std.specs.Prelude.{◌≡◌, ◌^◌};
 ghost use Rattle.crc.specs.Crc16.{times_byte, taken, crc16};
 

@@ -1,4 +1,6 @@
 // The days of a month, by the Gregorian leap rule, for every year from 0.
+#![tactic(auto)]
+
 ghost use Rattle.std.specs.Prelude.{◌≡◌};
 ghost use Rattle.days.specs.Days.{leap, days_in};
 

@@ -1,5 +1,7 @@
 // Prints what the files `left` and `right` of the current folder differ in, each a shelf: a line for each record that differs or that only one has, and
 // their number; or, where one is refused, its number and the file's name alone.
+#![tactic(auto)]
+
 ghost use Rattle.std.specs.Prelude.{◌≡◌, length};
 
 use libc::STDOUT_FILENO;

@@ -1,4 +1,6 @@
 // A table language for formats of bits: what a line of a table is, and the numbers of a table read, tested and written.
+#![tactic(auto)]
+
 ghost use Rattle.std.specs.Prelude.{◌≡◌, ◌+◌, ◌*◌, ◌/◌, ◌%◌, ◌<◌, ◌≤◌, ◌-◌, ◌^◌, length, set, true};
 ghost use Rattle.std.proofs.lemmas.List.Edits.{sets};
 ghost use Rattle.laws.specs.Bits.{at, bits_of, run, spread, bits};
@@ -7,7 +9,7 @@ ghost use Rattle.format.specs.Reach.{reach, field_read, fields_read, in_range, f
 
 // A line: n numbers of w bits, each lo to hi; other is what a reader answers where one is not.
 // A line that is not free has no numbers of its own: each of its numbers is lo.
-#[derive(Drop)]
+#[derive(Clone, Copy)]
 pub struct Line {
     pub count: usize,
     pub width: usize,

@@ -1,17 +1,19 @@
 // The heading of a frame: whose message it is of, how many frames that has, and which of them it is.
+#![tactic(auto)]
+
 ghost use Rattle.std.specs.Prelude.{◌≡◌};
 ghost use Rattle.frame.specs.Heading.{no_heading, heading_of};
 
 // How many frames a message has, from 1 to 63.
-#[derive(Drop)]
+#[derive(Clone, Copy)]
 pub struct Total(pub u8);
 
 // Which of them a frame is, from 0 to 62.
-#[derive(Drop)]
+#[derive(Clone, Copy)]
 pub struct Number(pub u8);
 
 // What a frame says of itself: the pair that it is of, how many frames there are, and which of them it is.
-#[derive(Drop)]
+#[derive(Clone, Copy)]
 pub struct Heading {
     pub level: u8,
     pub version: u8,
@@ -20,7 +22,7 @@ pub struct Heading {
 }
 
 // What reading a heading gives back: the answer, and the heading; its fields are zero beside a refusal.
-#[derive(Drop)]
+#[derive(Clone, Copy)]
 pub struct Headed {
     pub answer: u8,
     pub heading: Heading,

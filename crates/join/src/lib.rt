@@ -1,4 +1,6 @@
 // Joins a story: one to nine packets, lent back to back in any order, as one text.
+#![tactic(auto)]
+
 mod found;
 mod lent;
 

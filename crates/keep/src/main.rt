@@ -1,6 +1,8 @@
 // Keeps what air bytes on standard input carry: it writes, for whoever keeps the files, what belongs at the end of the file `shelf` of the current
 // folder. First a byte, the answer to the shelf as it stands: 34 or 35, and that is all, or 0 and behind it the 256 bytes of its summary. Then, for each
 // packet that is whole, a byte: 0, and behind it the record's 256 bytes and the 256 of the summary then; or 36 where the shelf is full.
+#![tactic(auto)]
+
 ghost use Rattle.std.specs.Prelude.{◌≡◌, length};
 
 use collector::Holdings;
@@ -8,7 +10,7 @@ use libc::{STDIN_FILENO, STDOUT_FILENO};
 use receiver::Receiver;
 
 // The collector so far, the place of it that gives way next, and how many bytes the shelf has.
-#[derive(Drop)]
+#[derive(Clone, Copy)]
 struct Keeping {
     collector: Holdings,
     turn: usize,
@@ -16,7 +18,7 @@ struct Keeping {
 }
 
 // The receiver so far, the rest, and whether the input has ended.
-#[derive(Drop)]
+#[derive(Clone, Copy)]
 struct Hearing {
     receiver: Receiver,
     keeping: Keeping,

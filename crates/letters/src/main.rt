@@ -1,8 +1,10 @@
 // Prints each place of the air bytes on standard input where 26 bits carry a letter: its bit number, the letter, the information; at the end their count.
+#![tactic(auto)]
+
 use libc::{STDIN_FILENO, STDOUT_FILENO};
 
 // The latest 26 bits, how many bits came, how many places carried a letter, and whether the input has ended.
-#[derive(Drop)]
+#[derive(Clone, Copy)]
 struct Looking {
     bits: u32,
     came: u64,

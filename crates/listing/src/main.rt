@@ -1,10 +1,12 @@
 // Lists the frames that air bytes on standard input carry: a line for each, with the collector's answer, and their count at the end.
+#![tactic(auto)]
+
 use collector::Holdings;
 use libc::{STDIN_FILENO, STDOUT_FILENO};
 use receiver::Receiver;
 
 // The receiver and the collector so far, how many frames came, and whether the input has ended.
-#[derive(Drop)]
+#[derive(Clone, Copy)]
 struct Listing {
     receiver: Receiver,
     collector: Holdings,

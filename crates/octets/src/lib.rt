@@ -1,4 +1,6 @@
 // Lists of bytes: one byte of a list, a part of it, and whether two lists are the same.
+#![tactic(auto)]
+
 ghost use Rattle.std.specs.Prelude.{◌≡◌, get_or};
 ghost use Rattle.laws.specs.Lists.{same};
 ghost use Rattle.octets.specs.Parts.{part_of};

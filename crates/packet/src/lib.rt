@@ -1,4 +1,5 @@
 // The packet of GY/T 390-2023, clause 6.1: what its fields are called, and its table of contents.
+#![tactic(auto)]
 
 ghost use Rattle.std.specs.Prelude.{◌≡◌, [], ◌∷◌, ◌%◌, get_or};
 ghost use Rattle.packet.specs.Table.{kind_of, type_of};
@@ -7,7 +8,7 @@ ghost use Rattle.packet.specs.Content.{no_such_day};
 ghost use Rattle.packet.specs.declared.Kind.TheVariants as kind;
 
 // The kinds of content (000, tables 3 to 6, 13 to 16 and 18); Raw is carried unopened, Unknown refused.
-#[derive(Drop)]
+#[derive(Clone, Copy)]
 pub enum Kind {
     Frequencies,
     Address,
@@ -23,7 +24,7 @@ pub enum Kind {
 }
 
 // Lines alone; lines, a count, a row as often as it says, lines; bytes, as many as there are; nothing known.
-#[derive(Drop)]
+#[derive(Clone, Copy)]
 pub enum Counting {
     Fixed,
     Counted,
@@ -32,7 +33,7 @@ pub enum Counting {
 }
 
 // Lines that stand one behind the other in the table: where, how many, their bits, and their own numbers.
-#[derive(Drop)]
+#[derive(Clone, Copy)]
 pub struct Lines {
     pub from: usize,
     pub m: usize,
@@ -41,7 +42,7 @@ pub struct Lines {
 }
 
 // A row of the table of contents: lines, of which the first own ones hold the content's own numbers, a row that is repeated, lines.
-#[derive(Drop)]
+#[derive(Clone, Copy)]
 pub struct RowLines {
     pub counting: Counting,
     pub own: usize,
@@ -51,7 +52,7 @@ pub struct RowLines {
 }
 
 // Of a kind: the bits before what is repeated, the count among them, those of a row and those behind; and their own numbers.
-#[derive(Drop)]
+#[derive(Clone, Copy)]
 pub struct Sizes {
     pub lead: usize,
     pub each: usize,
@@ -62,7 +63,7 @@ pub struct Sizes {
 }
 
 // A typed content. Its digits stand beside it, in Fields, and its bytes or entries in what is lent.
-#[derive(Drop)]
+#[derive(Clone, Copy)]
 pub enum Content {
     Raw,
     Frequencies {
@@ -101,7 +102,7 @@ pub enum Content {
 }
 
 // A content as plain numbers: its kind, how many numbers it has of its own, these and then zeros, and its count.
-#[derive(Drop)]
+#[derive(Clone, Copy)]
 pub struct Laid {
     pub kind: Kind,
     pub n: usize,
@@ -110,7 +111,7 @@ pub struct Laid {
 }
 
 // The fields that every packet has, the opened content among them; codes is the count n.
-#[derive(Drop)]
+#[derive(Clone, Copy)]
 pub struct Fields {
     pub typenumber: u8,
     pub codes: usize,
@@ -122,7 +123,7 @@ pub struct Fields {
 }
 
 // What a packet says: 23 digits a code, and for frequencies eight numbers an entry; 0 past the last.
-#[derive(Drop)]
+#[derive(Clone, Copy)]
 pub struct Opened {
     pub answer: u8,
     pub fields: Fields,
@@ -131,7 +132,7 @@ pub struct Opened {
 }
 
 // The answer of a writer, and how many bytes it wrote.
-#[derive(Drop)]
+#[derive(Clone, Copy)]
 pub struct Written {
     pub answer: u8,
     pub length: usize,

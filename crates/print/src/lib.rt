@@ -1,4 +1,6 @@
 // What the listing program prints of a frame; the letters program's lines are in `letters`, the shelf program's in `records`.
+#![tactic(auto)]
+
 mod letters;
 mod records;
 

@@ -1,1 +1,2 @@
 // The promises of the whole, as theorems (specs/ and proofs/). No code.
+#![tactic(auto)]

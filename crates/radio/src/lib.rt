@@ -1,5 +1,7 @@
 // The receiver, the block check, the packet check, the on-air writer and the deciding of symbols for programs in C: the same functions, and the
 // receiver's own record.
+#![tactic(auto)]
+
 ghost use Rattle.std.specs.Prelude.{◌≡◌};
 ghost use Rattle.crc.specs.Crc16.{crc16};
 ghost use Rattle.air.specs.OnAir.{aired_of, aired_into};
@@ -15,7 +17,7 @@ use samples::{Pair, Verdict};
 
 // The on-air writer's answer, and how many frames were written.
 #[repr(C)]
-#[derive(Drop)]
+#[derive(Clone, Copy)]
 pub struct Sent {
     pub answer: u8,
     pub frames: usize,
@@ -23,7 +25,7 @@ pub struct Sent {
 
 // The answer to a symbol; its bit, or 2 where it is undecided; the product that decided it; the state behind it.
 #[repr(C)]
-#[derive(Drop)]
+#[derive(Clone, Copy)]
 pub struct DecidedSymbol {
     pub answer: u8,
     pub verdict: u8,

@@ -357,7 +357,7 @@ fn take_number(t: Line, b: &[u8], p: usize, out: &mut [u32], i: usize) -> bool
 }
 
 // What is due of lines, the place behind them, and how many numbers they have of their own.
-#[derive(Drop)]
+#[derive(Clone, Copy)]
 pub(crate) struct Taken {
     pub(crate) due: u8,
     pub(crate) place: usize,

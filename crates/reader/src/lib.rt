@@ -1,4 +1,6 @@
 // The packet reader: what a packet says, its text and its bytes.
+#![tactic(auto)]
+
 mod columns;
 mod parts;
 mod refusals;
@@ -10,7 +12,7 @@ ghost use Rattle.reader.specs.Taking.{Right, Blank, told_of, tells, unless_refus
 use packet::{Content, Fields, Kind, Opened, RowLines, Sizes};
 
 // What a packet says, but for its codes, its entries and the digits beside its content, which go to arrays.
-#[derive(Drop)]
+#[derive(Clone, Copy)]
 pub struct Told {
     pub answer: u8,
     pub typenumber: u8,

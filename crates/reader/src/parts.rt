@@ -171,7 +171,7 @@ pub(crate) fn take_codes(b: &[u8], n: usize, out: &mut [u8]) -> u8
 
 // ---- the content
 // What the lines of a content are due, and the content.
-#[derive(Drop)]
+#[derive(Clone, Copy)]
 pub(crate) struct Held {
     pub(crate) due: u8,
     pub(crate) content: Content,

@@ -1,4 +1,6 @@
 // The receiver: deliveries of air bytes in, frames out.
+#![tactic(auto)]
+
 mod places;
 mod searching;
 mod store;
@@ -14,7 +16,7 @@ use searching::Read;
 // A receiver between deliveries: the low `count` bits of `high` and `low` are pending. Nothing above them means anything. They directly follow a
 // frame handed out where `follows` is not 0.
 #[repr(C)]
-#[derive(Drop)]
+#[derive(Clone, Copy)]
 pub struct Receiver {
     pub high: u64,
     pub low: u64,
@@ -24,7 +26,7 @@ pub struct Receiver {
 
 // The answer to a delivery, how many frames were written, and the receiver for the next one.
 #[repr(C)]
-#[derive(Drop)]
+#[derive(Clone, Copy)]
 pub struct Received {
     pub answer: u8,
     pub frames: usize,

@@ -12,7 +12,7 @@ use crate::window::window;
 use block::Letter;
 
 // Whether a frame stands at a place, its information, and how many of its blocks were mended.
-#[derive(Drop)]
+#[derive(Clone, Copy)]
 pub(crate) struct Found {
     pub frame: bool,
     pub words: u64,
@@ -20,7 +20,7 @@ pub(crate) struct Found {
 }
 
 // Where the search ended, the frames that it stored, and whether it ended right behind one.
-#[derive(Drop)]
+#[derive(Clone, Copy)]
 pub(crate) struct Read {
     pub from: usize,
     pub frames: usize,

@@ -1,4 +1,6 @@
 // Prints the shelf, the file `shelf` of the current folder: a line for each record, or the number of a refusal alone.
+#![tactic(auto)]
+
 ghost use Rattle.std.specs.Prelude.{◌≡◌, length};
 
 use libc::STDOUT_FILENO;

@@ -1,4 +1,6 @@
 // From samples to bits: a symbol of 16 pairs, in phase and quadrature, is decided by its pair and the pair before it.
+#![tactic(auto)]
+
 ghost use Rattle.std.specs.Prelude.{◌≡◌, ◌+◌, ◌≤◌, ◌<◌, length, get_or, T};
 ghost use Rattle.std.specs.Float.Ieee.{of_bits};
 ghost use Rattle.std.specs.Float.{binary64};
@@ -9,21 +11,21 @@ ghost use Rattle.samples.specs.Symbol.{is_sample, is_part, is_pair, total, part,
 
 // The sum of a symbol's first eight samples less that of its last eight, in phase and in quadrature. The previous symbol's is the state.
 #[repr(C)]
-#[derive(Drop)]
+#[derive(Clone, Copy)]
 pub struct Pair {
     pub inphase: f64,
     pub quadrature: f64,
 }
 
 // A bit, or none, with the dot product that decided it.
-#[derive(Drop)]
+#[derive(Clone, Copy)]
 pub enum Verdict {
     Zero(f64),
     One(f64),
     Undecided(f64),
 }
 
-#[derive(Drop)]
+#[derive(Clone, Copy)]
 pub struct Decided {
     pub answer: u8,
     pub verdict: Verdict,

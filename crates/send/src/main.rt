@@ -2,6 +2,8 @@
 // behind them three bytes, the answer, the number of parts and the size of the last packet. Where the story is refused there is no air byte.
 // The record, by the index of its first bytes: 0 level; 1 version; 2 kind of text; 3 count of codes; 4 the 35 digits of the first part's
 // number; 39 time, high byte first; 43 certificate; 55 signature; 119 the codes, 23 digits each; the text to the end.
+#![tactic(auto)]
+
 ghost use Rattle.std.specs.Prelude.{◌≤◌};
 
 use libc::{STDIN_FILENO, STDOUT_FILENO};

@@ -1,4 +1,6 @@
 // The shelf of what was received: records of 256 bytes, a summary of them by type, and a record's line of text.
+#![tactic(auto)]
+
 mod summary;
 
 ghost use Rattle.std.specs.Prelude.{◌≡◌, [], ◌∷◌, ◌++◌, ◌+◌, ◌-◌, ◌≤◌, length, replicate, eqb};
@@ -9,7 +11,7 @@ ghost use Rattle.shelf.specs.Record.{right};
 ghost use Rattle.shelf.specs.Shelf.{whole, all_right, shelf_answer, add_answer, added, summary_answer, summarized, make_answer, made, lined, line_output};
 
 // What is said of a line: the answer, and how many bytes were written.
-#[derive(Drop)]
+#[derive(Clone, Copy)]
 pub struct Written {
     pub answer: u8,
     pub length: usize,

@@ -1,12 +1,14 @@
 // Hears what standard input carries and writes what a board makes of it: for each frame a byte, the board's answer, and behind a 1 the text that
 // is shown now: level, parts, the 35 digits of its message number, its length in two bytes, high first, and its bytes. The first byte of the
 // input says what follows: 'A' air bytes, heard as they come; 'G' frames of eight bytes each. Where it is another, nothing is heard.
+#![tactic(auto)]
+
 use board::Board;
 use libc::{STDIN_FILENO, STDOUT_FILENO};
 use receiver::Receiver;
 
 // The receiver and the board so far, and whether the input has ended.
-#[derive(Drop)]
+#[derive(Clone, Copy)]
 struct Hearing {
     receiver: Receiver,
     board: Board,

@@ -1,4 +1,6 @@
 // The configuration commands of the digital sister band, GY/T 403-2024, clause 9.2: clock, resource code, lock frequency.
+#![tactic(auto)]
+
 mod judge;
 mod parts;
 mod puts;
@@ -10,7 +12,7 @@ ghost use Rattle.sister.specs.Writing.{written, command_output};
 use packet::Written;
 
 // What a tag names.
-#[derive(Drop)]
+#[derive(Clone, Copy)]
 pub enum Kind {
     Clock,
     Resource,
@@ -19,7 +21,7 @@ pub enum Kind {
 }
 
 // A command. Its address and the digits of its codes are lent beside it; Unknown stands beside a refusal, and is none.
-#[derive(Drop)]
+#[derive(Clone, Copy)]
 pub enum Command {
     Clock {
         year: u16,
@@ -40,7 +42,7 @@ pub enum Command {
 }
 
 // What a command says: 23 digits a code, 0 past the last.
-#[derive(Drop)]
+#[derive(Clone, Copy)]
 pub struct Opened {
     pub answer: u8,
     pub command: Command,

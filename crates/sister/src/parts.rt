@@ -9,7 +9,7 @@ ghost use Rattle.sister.specs.Layout.{layout_of, clock_at};
 use crate::{Command, Kind};
 
 // The bytes of a content and of its address, the bit at which its codes begin, and how many they are.
-#[derive(Drop)]
+#[derive(Clone, Copy)]
 pub(crate) struct Layout {
     pub(crate) bytes: usize,
     pub(crate) address: usize,

@@ -1,4 +1,6 @@
 // The size that a packet says of itself: its length field counts all but its first two bytes.
+#![tactic(auto)]
+
 ghost use Rattle.std.specs.Prelude.{◌≡◌};
 ghost use Rattle.size.specs.Size.{packet_size};
 

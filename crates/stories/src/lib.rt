@@ -1,4 +1,6 @@
 // The stories that a pier board waits for: parts in any order, with repeats, become texts; each text is shown once.
+#![tactic(auto)]
+
 mod parts;
 mod tales;
 
@@ -9,7 +11,7 @@ ghost use Rattle.stories.specs.Stories.{no_stories, index_of_story, leaves, move
 ghost use Rattle.stories.specs.Steps.{found_for, Keepable, unshown_with, shown_with, kept_shown, kept_output};
 
 // What a packet is a part of: the number of its story's part 1, the total, and how many parts are before it.
-#[derive(Drop)]
+#[derive(Clone, Copy)]
 pub struct Part {
     pub belongs: bool,
     pub number: [u8; 35],
@@ -18,7 +20,7 @@ pub struct Part {
 }
 
 // The parts of one story: the length of each body, 0 where the part was not heard, and 149 bytes of text for each.
-#[derive(Drop)]
+#[derive(Clone, Copy)]
 pub struct Tale {
     pub held: bool,
     pub number: [u8; 35],
@@ -28,13 +30,13 @@ pub struct Tale {
 }
 
 // The stories, the one that has waited longest for a part first.
-#[derive(Drop)]
+#[derive(Clone, Copy)]
 pub struct Stories {
     pub tales: [Tale; 4],
 }
 
 // What taking a packet in gives back: its answer; beside 1 the text's length, parts and message number; the stories then.
-#[derive(Drop)]
+#[derive(Clone, Copy)]
 pub struct Shown {
     pub answer: u8,
     pub length: usize,
@@ -126,7 +128,7 @@ fn show(x: Part, n: usize, s: Stories) -> Shown
 }
 
 // The place that the part's story is held in, and it; else the first place, and one that is not held.
-#[derive(Drop)]
+#[derive(Clone, Copy)]
 struct Found {
     at: usize,
     tale: Tale,

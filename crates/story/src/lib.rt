@@ -1,9 +1,11 @@
 // A text longer than a packet: what is told, what telling and joining give back. The functions are in `tell` and `join`.
+#![tactic(auto)]
+
 ghost use Rattle.std.specs.Prelude.{◌≡◌, ◌++◌, take};
 ghost use Rattle.story.specs.Telling.{last_four, four_of};
 
 // What every part of a story has: kind of text, number of the first part, count of codes, time, certificate, signature.
-#[derive(Drop)]
+#[derive(Clone, Copy)]
 pub struct Story {
     pub kind: u8,
     pub digits: [u8; 35],
@@ -14,7 +16,7 @@ pub struct Story {
 }
 
 // The answer of telling, how many parts, and how many bytes in all.
-#[derive(Drop)]
+#[derive(Clone, Copy)]
 pub struct Told {
     pub answer: u8,
     pub parts: usize,
@@ -22,7 +24,7 @@ pub struct Told {
 }
 
 // The answer of joining, and how many bytes of text.
-#[derive(Drop)]
+#[derive(Clone, Copy)]
 pub struct Joined {
     pub answer: u8,
     pub length: usize,

@@ -1,4 +1,6 @@
 // The table of contents in code: every line of it, the row of each kind, and what is read off a row.
+#![tactic(auto)]
+
 mod rows;
 
 ghost use Rattle.std.specs.Prelude.{◌≡◌, get_or};

@@ -1,4 +1,6 @@
 // Tells a story: a text of any length as one to nine packets, back to back.
+#![tactic(auto)]
+
 mod characters;
 mod packets;
 

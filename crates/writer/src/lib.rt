@@ -1,4 +1,6 @@
 // The packet writer: fields, codes and body as the bytes of a packet.
+#![tactic(auto)]
+
 mod columns;
 mod content;
 mod fits;
