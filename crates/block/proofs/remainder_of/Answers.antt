@@ -1,4 +1,4 @@
--- `block::remainder_of` meets its contract: its steps and the remainder are both linear, and agree at each of the sixteen powers of x.
+-- `block::remainder_of`: what its goals need: its steps and the remainder are both linear, and agree at each of the sixteen powers of x.
 -- Assumes nothing.
 use mathlib.Core.Path.{◌≡◌, refl}
 use Prim.Native.Nat.{ℕ, ◌*◌, ◌/◌, ◌%◌, ◌^◌, ◌<◌}
@@ -8,8 +8,7 @@ use Rattle.laws.specs.Below.{below}
 use Rattle.laws.proofs.Remainder.{remainder_xor}
 use Rattle.laws.proofs.Linear.{Linear, linear_up, linear_down, linear_low, linear_sum, linear_then, linear_right, linear_left, same_linear}
 use Rattle.block.specs.Block.{generator, syndrome}
-use Rattle.block.proofs.remainder_of.Statement.{statement}
-use Rattle.block.proofs.remainder_of.Tie as tie
+use Rattle.block.proofs.remainder_of.Goals as goal
 
 -- the steps of the code
 h : ℕ → ℕ
@@ -68,12 +67,6 @@ steps_are : (info : ℕ) → info < 2 ^ 16 → r info ≡ syndrome (info * 2 ^ 1
 unfolding below r w q a u h syndrome remainder reduce
 steps_are = same_linear r (λ p. syndrome (p * 2 ^ 10)) linear_r linear_syndrome 16 refl
 
-cast-result : tie.Need-overflow-cast-result
-cast-result c = search rules
-
-returns : tie.Need-returns
+pub returns : goal.returns
 unfolding r w q a u h
 returns c = steps_are c.args.info (search rules)
-
-pub remainder-of-spec : {M : Type 1} → statement M
-remainder-of-spec = tie.close (tie.spec cast-result returns)

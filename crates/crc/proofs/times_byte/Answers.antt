@@ -1,4 +1,4 @@
--- `crc::times_byte` meets its contract: its steps and the remainder are both linear, and agree at each of the sixteen powers of x.
+-- `crc::times_byte`: what its goals need: its steps and the remainder are both linear, and agree at each of the sixteen powers of x.
 -- Assumes nothing.
 use mathlib.Core.Path.{◌≡◌, refl}
 use Prim.Native.Nat.{ℕ, ◌*◌, ◌/◌, ◌%◌, ◌^◌, ◌<◌}
@@ -8,8 +8,7 @@ use Rattle.laws.specs.Below.{below}
 use Rattle.laws.proofs.Remainder.{remainder_xor}
 use Rattle.laws.proofs.Linear.{Linear, linear_up, linear_down, linear_sum, linear_then, linear_right, linear_left, same_linear}
 use Rattle.crc.specs.Crc16.{generator, times_byte}
-use Rattle.crc.proofs.times_byte.Statement.{statement}
-use Rattle.crc.proofs.times_byte.Tie as tie
+use Rattle.crc.proofs.times_byte.Goals as goal
 
 -- the steps of the code
 x : ℕ → ℕ
@@ -43,9 +42,6 @@ steps_are : (p : ℕ) → p < 2 ^ 16 → r p ≡ times_byte p
 unfolding below r y x times_byte remainder reduce
 steps_are = same_linear r times_byte linear_r linear_times 16 refl
 
-returns : tie.Need-returns
+pub returns : goal.returns
 unfolding r y x
 returns c = steps_are c.args.register (search rules)
-
-pub times-byte-spec : {M : Type 1} → statement M
-times-byte-spec = tie.close (tie.spec returns)
