@@ -49,7 +49,7 @@ class Walk:
     def lookup(self, place, fields):
         """(new step text, how many fields it takes, place index) for the fields behind a place."""
         f = norm(fields[0])
-        if f in ("args", "requires", "well_formed", "ranges", "captures", "utf8"):
+        if f in ("args", "type_inv", "requires", "well_formed", "ranges", "captures", "utf8"):
             return f, 1, None
         seen = []
         p = place
@@ -136,7 +136,7 @@ class Walk:
             var = typed.get(norm(m.group(2)))
             return f"{m.group(1)}.type_inv.{var} {m.group(3)}" if var else m.group(0)
 
-        text = re.sub(rf"\(({F})(?:\.before)*\.(shared[-_]slice[-_]known\d*)\.given ((?:{F}|\([^()]*\)))\)\.fits", lambda m: "(" + known(m) + ")" if typed.get(norm(m.group(2))) else m.group(0), text)
+        text = re.sub(rf"\(({F})(?:\.before)*\.(shared[-_]slice[-_]known\d*)\.given ((?:{F}|\([^()]*\)))\)\.fits", lambda m: "(" + known(m) + ").fits" if typed.get(norm(m.group(2))) else m.group(0), text)
         text = re.sub(rf"(?<![\w.'-])({F})((?:\.{F})+)", each, text)
         return text
 
