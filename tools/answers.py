@@ -110,22 +110,36 @@ class Walk:
 
     def turn(self, text, place, roots):
         """Rewrites each path that begins at one of roots (name -> place)."""
-        roots = dict(roots)
-        for m in re.finditer(rf"let ({F}) = ({F})((?:\.before)*) in\b", text):
-            name, base, up = m.groups()
+        roots = {n: (p, []) for n, p in roots.items()}
+        for m in re.finditer(rf"let ({F}) = ({F})((?:\.{F})*) in\b", text):
+            name, base, fields = m.group(1), m.group(2), m.group(3)[1:].split(".") if m.group(3) else []
             if base in roots:
-                p = roots[base]
-                for _ in range(up.count(".before")):
-                    q = self.parent(p)
-                    p = q if q is not None else p
-                roots[name] = p
+                place, before = roots[base]
+                fields = before + fields
+                while fields and fields[0] == "before":
+                    place = self.parent(place) or place
+                    fields = fields[1:]
+                roots[name] = (place, fields)
 
         def each(m):
             name, fields = m.group(1), m.group(2)[1:].split(".")
             if name not in roots:
                 return m.group(0)
-            got, _ = self.resolve(roots[name], fields)
-            return name if got is None else f"{name}.{got}"
+            place, before = roots[name]
+            got, _ = self.resolve(place, before + fields)
+            if got is None:
+                return name
+            if before:
+                head, _ = self.resolve(place, before)
+                if head and got.startswith(head + "."):
+                    got = got[len(head) + 1 :]
+                else:
+                    self.said.append(f"{name}.{'.'.join(fields)} is {got}")
+            m2 = re.search(r"(?:^|\.)if-not-[^.]*\.(true|false)$", got)
+            if m2:
+                self.nots = True
+                return f"(ap not {name}.{got})"
+            return f"{name}.{got}"
 
         typed = {}
         for pairs in self.d.get("typed", []):
@@ -186,6 +200,10 @@ def clause_by_clause(body, names):
     parts = tuple_parts(last)
     if parts and len(parts) == len(names):
         return head + " record {\n      " + ";\n      ".join(f"{n} = {p}" for n, p in zip(names, parts)) + ";\n    }"
+    m = re.match(r"\s*(rw (?:[^\s()]+|\((?:[^()]|\([^()]*\))*\))) (\([\s\S]*\))\s*$", last)
+    parts = tuple_parts(m.group(2)) if m else None
+    if parts and len(parts) == len(names):
+        return head + " record {\n      " + ";\n      ".join(f"{n} = {m.group(1)} {'(' + p + ')' if ' ' in p else p}" for n, p in zip(names, parts)) + ";\n    }"
     return head + " let all = " + last.strip() + " in record { " + "; ".join(f"{n} = all.{k}" for k, n in enumerate(names)) + " }"
 
 
@@ -298,7 +316,7 @@ def convert(crate, key, data, folder):
                     said.append("unread clause of " + name)
                     continue
                 arg, body = m2.groups()
-                if re.fullmatch(r"search \(?(rules)\)?|omega arith|search \(rules\)", body.strip()):
+                if not opened and re.fullmatch(r"search \(?(rules)\)?|omega arith|search \(rules\)", body.strip()):
                     continue
                 body = walk.turn(body, place_of[name], {arg: place_of[name]})
                 asked = data["asked"].get(next(o for o, n in needs if n == goal))
@@ -312,6 +330,8 @@ def convert(crate, key, data, folder):
         if re.search(r"\b(tie|Lts)\.", "\n".join(block)):
             said.append("a lemma over a record: " + name)
         helpers += comment + block + [""]
+    if getattr(walk, "nots", False):
+        uses += ["use mathlib.Core.Path.{ap}", "use mathlib.Core.Bool.{not}"]
     crate_path = f"Rattle.{crate}.proofs.{module}"
     uses = [u for u in uses if not re.search(r"\.(Statement|Tie|Lts)\b", u)]
 

@@ -172,6 +172,8 @@ neg_signed true (suc n) = refl
 neg_value : (x : Float) (s : Bool) (n : ℕ) → HasValue x s n 1 → HasValue (neg x) (not s) n 1
 unfolding neg
 neg_value (fin t m e) s n v = (ap not v.0, v.1)
+neg_value nan s n v = elim v [ ]
+neg_value (inf _) s n v = elim v [ ]
 
 pub neg_means : (x : Float) (z : ℤ) → Means x z → Means (neg x) (neg_ℤ z)
 neg_means x z m = record {

@@ -76,6 +76,8 @@ module _ (r : ℕ) (h : 2 ^ 52 ≤ r) where
   large : (t : Bool) (n : ℕ) (e : ℤ) (y : Float) → T (fits binary64 (fin t n e)) → HasValue y false r 1 → lt (fin t n e) y ≡ false → T (is_whole (fin t n e))
   unfolding lt is_whole
   large t n (pos k) y f v q = let z : n * 2 ^ k % 1 ≡ 0 = omega arith in eq→eqb z
+  large t n (negsuc k) nan f v q = elim v [ ]
+  large t n (negsuc k) (inf _) f v q = elim v [ ]
   large t n (negsuc k) (fin u m d) f v q = absurd (by t (few_digits t n (negsuc k) f) (sym given ∙ q))
     where
       given : below t (n * 1 * down d) u (m * up d * 2 ^ suc k) ≡ below t (n * 1 * down d) false (r * down d * 2 ^ suc k)
@@ -210,10 +212,14 @@ record Stayed (x : Float) (a b : ℕ) : Type 0 where
 low_end : (y : Float) (a : ℕ) → HasValue y false a 1 → lt (inf true) y ≡ false → ⊥
 unfolding lt
 low_end (fin u m d) a v e = true≢false e
+low_end nan a v e = elim v [ ]
+low_end (inf _) a v e = elim v [ ]
 
 high_end : (y : Float) (b : ℕ) → HasValue y false b 1 → lt y (inf false) ≡ false → ⊥
 unfolding lt
 high_end (fin u m d) b v e = true≢false e
+high_end nan b v e = elim v [ ]
+high_end (inf _) b v e = elim v [ ]
 
 positive_value : (s : Bool) (n y : ℕ) → 0 < y → signed s n ≡ pos y → (s ≡ false) × (n ≡ y)
 positive_value false n y h e = (refl, ap nat_abs e)
