@@ -18,7 +18,7 @@ F = r"[A-Za-z0-9_'₀-₉κ-]+"
 
 
 def norm(w):
-    w = w.replace("-", "_")
+    w = w.replace("-", "_").lower()
     return w[:-4] if w.endswith("_lem") else w
 
 
@@ -73,13 +73,7 @@ class Walk:
         return None, 0, None
 
     def resolve(self, place, fields):
-        i = 0
-        while i < len(fields) and fields[i] == "before":
-            up = self.parent(place)
-            if up is not None:
-                place = up
-            i += 1
-        rest = fields[i:]
+        rest = [f for f in fields if f != "before"]
         if not rest:
             return None, place
         step, n, k = self.lookup(place, rest)
@@ -110,22 +104,20 @@ class Walk:
 
     def turn(self, text, place, roots):
         """Rewrites each path that begins at one of roots (name -> place)."""
-        roots = {n: (p, []) for n, p in roots.items()}
+        roots = {n: (p, [], n) for n, p in roots.items()}
+        aliases = []
         for m in re.finditer(rf"let ({F}) = ({F})((?:\.{F})*) in\b", text):
             name, base, fields = m.group(1), m.group(2), m.group(3)[1:].split(".") if m.group(3) else []
             if base in roots:
-                place, before = roots[base]
-                fields = before + fields
-                while fields and fields[0] == "before":
-                    place = self.parent(place) or place
-                    fields = fields[1:]
-                roots[name] = (place, fields)
+                place, before, root = roots[base]
+                roots[name] = (place, before + [f for f in fields if f != "before"], root)
+                aliases.append(name)
 
         def each(m):
             name, fields = m.group(1), m.group(2)[1:].split(".")
             if name not in roots:
                 return m.group(0)
-            place, before = roots[name]
+            place, before, root = roots[name]
             got, _ = self.resolve(place, before + fields)
             if got is None:
                 return name
@@ -134,7 +126,7 @@ class Walk:
                 if head and got.startswith(head + "."):
                     got = got[len(head) + 1 :]
                 else:
-                    self.said.append(f"{name}.{'.'.join(fields)} is {got}")
+                    name = root
             m2 = re.search(r"(?:^|\.)if-not-[^.]*\.(true|false)$", got)
             if m2:
                 self.nots = True
@@ -152,6 +144,9 @@ class Walk:
 
         text = re.sub(rf"\(({F})(?:\.before)*\.(shared[-_]slice[-_]known\d*)\.given ((?:{F}|\([^()]*\)))\)\.fits", lambda m: "(" + known(m) + ").fits" if typed.get(norm(m.group(2))) else m.group(0), text)
         text = re.sub(rf"(?<![\w.'-])({F})((?:\.{F})+)", each, text)
+        for name in reversed(aliases):
+            if len(re.findall(rf"(?<![\w.'-]){re.escape(name)}(?![\w'-])", text)) == 1:
+                text = re.sub(rf"let {re.escape(name)} = [^\s]+ in\s*", "", text, count=1)
         return text
 
 
