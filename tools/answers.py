@@ -42,6 +42,11 @@ class Walk:
         self.d = data
         self.places = {p[0]: (k, p) for k, p in enumerate(data["places"])}
         self.said = []
+        self.args = {}
+        for pair in data.get("args") or []:
+            if pair[0].startswith(".args ."):
+                self.args[pair[0][len(".args .") :]] = pair[1][len(".args .") :]
+        self.callees = {p[3].split("::")[-1] for p in data["places"] if p[3]}
 
     def parent(self, place):
         return self.places[place][1][1] if place in self.places else None
@@ -73,7 +78,9 @@ class Walk:
         return None, 0, None
 
     def resolve(self, place, fields):
-        rest = [f for f in fields if f != "before"]
+        rest = list(fields)
+        while rest and rest[0] == "before":
+            rest = rest[1:]
         if not rest:
             return None, place
         step, n, k = self.lookup(place, rest)
@@ -81,6 +88,8 @@ class Walk:
             self.said.append("no step for " + ".".join(fields))
             return ".".join(rest), place
         out, rest = [step], rest[n:]
+        if step in ("args", "ranges") and rest and rest[0] in self.args:
+            rest = [self.args[rest[0]]] + rest[1:]
         if step == "requires" and rest and rest[0].isdigit() and self.d.get("pre"):
             names = self.d["pre"]["fields"]
             if int(rest[0]) < len(names):
@@ -110,7 +119,10 @@ class Walk:
             name, base, fields = m.group(1), m.group(2), m.group(3)[1:].split(".") if m.group(3) else []
             if base in roots:
                 place, before, root = roots[base]
-                roots[name] = (place, before + [f for f in fields if f != "before"], root)
+                fields = before + fields
+                while fields and fields[0] == "before":
+                    fields = fields[1:]
+                roots[name] = (place, fields, root)
                 aliases.append(name)
 
         def each(m):
@@ -127,8 +139,8 @@ class Walk:
                     got = got[len(head) + 1 :]
                 else:
                     name = root
-            m2 = re.search(r"(?:^|\.)if-not-[^.]*\.(true|false)$", got)
-            if m2:
+            m2 = re.search(r"(?:^|\.)if-not-(\w+)[^.]*\.(true|false)$", got)
+            if m2 and m2.group(1) in self.callees:
                 self.nots = True
                 return f"(ap not {name}.{got})"
             return f"{name}.{got}"
