@@ -37,6 +37,18 @@ def parts_of(text):
     return pieces
 
 
+def clause_at(names, fields):
+    """The name of a clause that pairs of pairs led to: .0, .1.0, .1.1 of three."""
+    k, i = 0, 0
+    while k < len(names) - 1 and i < len(fields) and fields[i] == "1":
+        k, i = k + 1, i + 1
+    if k < len(names) - 1:
+        if i >= len(fields) or fields[i] != "0":
+            return fields
+        i += 1
+    return [names[k]] + fields[i:]
+
+
 class Walk:
     def __init__(self, data):
         self.d = data
@@ -91,9 +103,7 @@ class Walk:
         if step in ("args", "ranges") and rest and rest[0] in self.args:
             rest = [self.args[rest[0]]] + rest[1:]
         if step == "requires" and rest and rest[0].isdigit() and self.d.get("pre"):
-            names = self.d["pre"]["fields"]
-            if int(rest[0]) < len(names):
-                rest = [names[int(rest[0])]] + rest[1:]
+            rest = clause_at(self.d["pre"]["fields"], rest)
         if k is not None and rest:
             callee = self.d["places"][k][3]
             if norm(rest[0]) == "new" and callee and len(rest) > 1 and rest[1].isdigit():
@@ -107,8 +117,8 @@ class Walk:
                     self.said.append("no parameter for " + ".".join(fields))
             elif rest[0] == "ensures" and len(rest) > 1 and rest[1].isdigit():
                 clause = self.d["clauses"][k] if k < len(self.d["clauses"]) else None
-                if clause and int(rest[1]) < len(clause["fields"]):
-                    rest = ["ensures", clause["fields"][int(rest[1])]] + rest[2:]
+                if clause:
+                    rest = ["ensures"] + clause_at(clause["fields"], rest[1:])
         return ".".join(out + rest), place
 
     def turn(self, text, place, roots):
@@ -205,13 +215,15 @@ def split_last(body):
 def clause_by_clause(body, names):
     head, last = split_last(body)
     parts = tuple_parts(last)
+    while parts and len(parts) < len(names) and tuple_parts(parts[-1]):
+        parts = parts[:-1] + tuple_parts(parts[-1])
     if parts and len(parts) == len(names):
         return head + " record {\n      " + ";\n      ".join(f"{n} = {p}" for n, p in zip(names, parts)) + ";\n    }"
     m = re.match(r"\s*(rw (?:[^\s()]+|\((?:[^()]|\([^()]*\))*\))) (\([\s\S]*\))\s*$", last)
     parts = tuple_parts(m.group(2)) if m else None
     if parts and len(parts) == len(names):
         return head + " record {\n      " + ";\n      ".join(f"{n} = {m.group(1)} {'(' + p + ')' if ' ' in p else p}" for n, p in zip(names, parts)) + ";\n    }"
-    return head + " let all = " + last.strip() + " in record { " + "; ".join(f"{n} = all.{k}" for k, n in enumerate(names)) + " }"
+    return head + " let all = " + last.strip() + " in record { " + "; ".join(f"{n} = all{'.1' * k}{'.0' if k < len(names) - 1 else ''}" for k, n in enumerate(names)) + " }"
 
 
 def convert(crate, key, data, folder):
@@ -318,18 +330,19 @@ def convert(crate, key, data, folder):
             clauses = [b for b in block[1:] if not b.startswith("unfolding")]
             opened = [b for b in block[1:] if b.startswith("unfolding")]
             if len(clauses) == 1:
-                m2 = re.match(re.escape(name) + r"\s+([^\s=]+)(?:\s+κs)?\s*=\s*([\s\S]*)", clauses[0])
+                m2 = re.match(re.escape(name) + r"\s+([^\s=]+)((?:\s+[^\s=]+)*)\s*=\s*([\s\S]*)", clauses[0])
                 if not m2:
                     said.append("unread clause of " + name)
                     continue
-                arg, body = m2.groups()
+                arg, more, body = m2.groups()
+                more = "".join(" " + w for w in more.split() if w != "κs")
                 if not opened and re.fullmatch(r"search \(?(rules)\)?|omega arith|search \(rules\)", body.strip()):
                     continue
                 body = walk.turn(body, place_of[name], {arg: place_of[name]})
                 asked = data["asked"].get(next(o for o, n in needs if n == goal))
                 if asked and len(asked) > 1:
                     body = clause_by_clause(body, asked)
-                out += comment + [f"pub {goal} : goal.{goal}"] + opened + [f"{goal} {arg} ={'' if body.startswith(chr(10)) else ' '}{body}", ""]
+                out += comment + [f"pub {goal} : goal.{goal}"] + opened + [f"{goal} {arg}{more} ={'' if body.startswith(chr(10)) else ' '}{body}", ""]
             else:
                 said.append("several clauses of " + name)
                 out += comment + [f"pub {goal} : goal.{goal}"] + opened + [b.replace(name, goal, 1) for b in clauses] + [""]

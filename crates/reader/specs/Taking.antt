@@ -19,8 +19,8 @@ use Rattle.reader.specs.declared.Told.{Told}
 use Rattle.reader.specs.Due.{plain}
 
 -- the own numbers of a line that begins at place p
-abbrev pub field_own : Line → List ℕ → ℕ → List ℕ
-field_own t b p = cond t.given (run (bits b) p t.count t.width) []
+abbrev pub own_at : Line → List ℕ → ℕ → List ℕ
+own_at t b p = cond t.given (run (bits b) p t.count t.width) []
 
 -- c digits in each of n rows, s bytes apart, that end with byte e in the first, of so many bytes; to places w apart, from i on, of so many
 pub record Digits (c bytes e s n places i w : ℕ) : Type 0 where

@@ -1,15 +1,14 @@
--- `receiver::places::marks` meets its contract: each of its ten sums slides along the number, and agrees at each power of x with a sum of bits
+-- `receiver::places::marks`: what its goals need: each of its ten sums slides along the number, and agrees at each power of x with a sum of bits
 -- of the remainder that is 1 at A's offset word. Assumes nothing.
 use mathlib.Core.Path.{refl}
 use mathlib.Core.List.{[], ◌∷◌}
 use Prim.Native.Nat.{ℕ, ◌/◌, ◌^◌}
-use borrow.Author.Rules.{rules}
 use Rattle.laws.specs.Poly.{◌⊕◌, reduce, remainder}
 use Rattle.laws.specs.Below.{below}
 use Rattle.block.specs.Block.{syndrome}
-use Rattle.receiver.proofs.Sums.{Slides, itself, right, plus, taps, OddAtA, odd_at_a, both}
-use Rattle.receiver.proofs.places.marks.Statement.{statement}
-use Rattle.receiver.proofs.places.marks.Tie as tie
+use Rattle.receiver.proofs.Sums.{both, Slides, itself, right, plus, taps, OddAtA, odd_at_a}
+use borrow.Author.Rules.{rules}
+use Rattle.receiver.proofs.places.marks.Goals as goal
 
 -- what the code shifts: the number, and the sums that the ten share
 u : (k : ℕ) → Slides (λ p. p / 2 ^ k)
@@ -91,11 +90,8 @@ sum_10 : OddAtA (λ p. z p / 2 ^ 1)
 unfolding e t z below taps syndrome remainder reduce
 sum_10 = odd_at_a (right 1 slides_z) (1 ∷ 2 ∷ []) refl refl
 
-returns : tie.Need-returns
+pub returns : goal.returns
 unfolding e t v w z
 returns c j v' =
     let ten = both (both (both (both sum_1 sum_2) sum_3) (both (both sum_4 sum_5) sum_6)) (both (both (both sum_7 sum_8) sum_9) sum_10) in
     ten.odd c.args.u j (search rules) v'
-
-pub marks-spec : {M : Type 1} → statement M
-marks-spec = tie.close (tie.spec returns)

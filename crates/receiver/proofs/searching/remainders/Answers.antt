@@ -1,4 +1,4 @@
--- `receiver::searching::remainders` meets its contract: its steps and the two remainders are both linear, and agree at each of the 52 powers of x.
+-- `receiver::searching::remainders`: what its goals need: its steps and the two remainders are both linear, and agree at each of the 52 powers of x.
 -- Assumes nothing.
 use mathlib.Core.Path.{◌≡◌, refl, ◌∙◌}
 use Prim.Native.Nat.{ℕ, ◌*◌, ◌/◌, ◌%◌, ◌^◌, ◌<◌}
@@ -8,8 +8,7 @@ use Rattle.laws.specs.Below.{below}
 use Rattle.laws.proofs.Linear.{Linear, linear_sum, linear_right, linear_left, same_linear}
 use Rattle.block.specs.Block.{syndrome}
 use Rattle.receiver.proofs.Pairs.{linear_mask, both_leave, both_leave_lem, linear_both}
-use Rattle.receiver.proofs.searching.remainders.Statement.{statement}
-use Rattle.receiver.proofs.searching.remainders.Tie as tie
+use Rattle.receiver.proofs.searching.remainders.Goals as goal
 
 -- the steps of the code
 p : ℕ → ℕ
@@ -83,9 +82,6 @@ steps_are : (n : ℕ) → n < 2 ^ 52 → steps n ≡ both_leave n
 unfolding below steps r w q a u h p both_leave syndrome remainder reduce
 steps_are = same_linear steps both_leave linear_steps linear_both 52 refl
 
-returns : tie.Need-returns
+pub returns : goal.returns
 unfolding steps r w q a u h p
 returns c = steps_are c.args.blocks c.requires ∙ both_leave_lem c.args.blocks
-
-pub remainders-spec : {M : Type 1} → statement M
-remainders-spec = tie.close (tie.spec returns)
