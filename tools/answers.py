@@ -106,13 +106,13 @@ class Walk:
             rest = clause_at(self.d["pre"]["fields"], rest)
         if k is not None and rest:
             callee = self.d["places"][k][3]
-            if norm(rest[0]) == "new" and callee and len(rest) > 1 and rest[1].isdigit():
+            if norm(rest[0]) in ("new", "auto") and callee and len(rest) > 1 and rest[1].isdigit():
                 ones = 0
                 while 1 + ones < len(rest) and rest[1 + ones] == "1":
                     ones += 1
                 names = self.d["params"].get(callee, [])
                 if 1 + ones < len(rest) and rest[1 + ones] == "0" and ones < len(names):
-                    rest = ["new", names[ones]] + rest[2 + ones :]
+                    rest = [norm(rest[0]), names[ones]] + rest[2 + ones :]
                 else:
                     self.said.append("no parameter for " + ".".join(fields))
             elif rest[0] == "ensures" and len(rest) > 1 and rest[1].isdigit():
@@ -266,7 +266,7 @@ def convert(crate, key, data, folder):
     needs = data["needs"]
     kinds = {}
     for _, name, block in decls:
-        m = re.search(r":\s*tie\.(\S+)", block[0])
+        m = re.match(r"(?:(?:abbrev|pub|unfoldable) )*[^\s:({]+\s*:\s*tie\.(\S+)", block[0])
         if m:
             kinds[name] = m.group(1)
     answers = [n for n in order if kinds.get(n, "").startswith("Need-")]
