@@ -95,21 +95,21 @@ def closed_forms():
 def is_closed(contract, forms):
     """Whether a contract leaves one answer and one content of each lent memory: an equation, or a closed form, for each of them."""
     head, *clauses = re.split(r"\bensures\b", contract)
-    wanted = (["r"] if "->" in head else []) + re.findall(r"(\w+): &(?:'\w+ )?mut ", head)
+    wanted = (["result"] if "->" in head else []) + re.findall(r"(\w+): &(?:'\w+ )?mut ", head)
     said = set()
     for clause in clauses:
-        m = re.match(r"(?:\w+ )?\{ λ (\w+)\. ⌜ (.*) ⌝ \}$", " ".join(clause.split()))
+        m = re.match(r"(?:\w+ )?\{ (.*) \}$", " ".join(clause.split()))
         if not m:
             return False
-        bound, fact = m.groups()
+        fact = m.group(1)
         left, equals, right = fact.partition(" ≡ ")
-        of_answer = re.fullmatch(r"(?:now )?%s" % bound, left)
-        of_memory = re.fullmatch(r"(?:bits \()?now \((\w+) \.exit\)\)?", left)
-        closed = re.match(r"(\w+) %s (.*)" % bound, fact)
-        if equals and (of_answer or of_memory) and not re.search(r"\.exit|≡|(?<![\w.])%s(?!\w)" % bound, right):
-            said.add("r" if of_answer else of_memory.group(1))
+        of_answer = re.fullmatch(r"result(?:\.now)?", left)
+        of_memory = re.fullmatch(r"(?:bits )?(\w+)\.new", left)
+        closed = re.match(r"(\w+) result (.*)", fact)
+        if equals and (of_answer or of_memory) and not re.search(r"\.new\b|≡|(?<![\w.])result(?!\w)", right):
+            said.add("result" if of_answer else of_memory.group(1))
         elif not equals and closed and closed.group(1) in forms:
-            said.add("r")
+            said.add("result")
         else:
             return False
     return said == set(wanted)
@@ -169,7 +169,7 @@ def edits_are_told():
 
 
 def crates_are_told():
-    listed = re.findall(r"^([a-z_]+):", text("crates.txt"), re.M)
+    listed = re.findall(r"^([a-z]\w*)(?: [^#:\n]*)?:", text("crates.txt"), re.M)
     for page in ("README.md", "docs/ARCHITECTURE.md"):
         for crate in listed:
             if "`%s`" % crate not in text(page):
