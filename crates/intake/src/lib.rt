@@ -1,0 +1,36 @@
+// Reading in whole pieces, where one read may give less than is there.
+#![tactic(auto)]
+
+ghost use Rattle.std.specs.Prelude.{◌≡◌, ◌+◌, ◌<◌, ◌≤◌, IfOk, drop, length, take};
+ghost use Rattle.std.specs.Io.KnownBytes.{Consumes, IsAtEnd};
+
+use std::io;
+use std::io::Read;
+
+// What one read gives, put behind the first `at` bytes of the piece; how many bytes came.
+fn more<R: Read>(input: &mut R, piece: &mut [u8], at: usize) -> io::Result<usize>
+    requires { at ≤ length piece.old }
+    ensures front { take at piece.new ≡ take at piece.old }
+    ensures within { IfOk result (λ n. at + n ≤ length piece.new) }
+    ensures bytes { IfOk result (λ n. Consumes (R.remaining input.old) (R.remaining input.new) (take n (drop at piece.new))) }
+    ensures end { IfOk result (λ n. n ≡ 0 → at < length piece.old → IsAtEnd (R.remaining input.new)) }
+{
+    input.read(&mut piece[at..])
+}
+
+// Reads until the piece is full or the input ends, and says how many bytes came; they stand at the start of the piece.
+pub fn fill<R: Read>(input: &mut R, piece: &mut [u8]) -> io::Result<usize>
+    ensures within { IfOk result (λ n. n ≤ length piece.new) }
+    ensures bytes { IfOk result (λ n. Consumes (R.remaining input.old) (R.remaining input.new) (take n piece.new)) }
+    ensures end { IfOk result (λ n. n < length piece.new → IsAtEnd (R.remaining input.new)) }
+{
+    let mut done: usize = 0;
+    while done < piece.len() {
+        let n = more(input, piece, done)?;
+        if n == 0 {
+            return Ok(done);
+        }
+        done += n;
+    }
+    Ok(done)
+}
