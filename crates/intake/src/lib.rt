@@ -1,11 +1,12 @@
 // Reading in whole pieces, where one read may give less than is there.
 #![tactic(auto)]
 
-ghost use Rattle.std.specs.Prelude.{◌≡◌, ◌+◌, ◌<◌, ◌≤◌, IfOk, drop, length, take};
+ghost use Rattle.std.specs.Prelude.{◌≡◌, ◌+◌, ◌<◌, ◌≤◌, IfOk, IfSome, drop, length, take};
 ghost use Rattle.std.specs.Io.KnownBytes.{Consumes, IsAtEnd};
 
-use std::io;
 use std::io::Read;
+use std::rt::Files;
+use std::{fs, io};
 
 // What one read gives, put behind the first `at` bytes of the piece; how many bytes came.
 fn more<R: Read>(input: &mut R, piece: &mut [u8], at: usize) -> io::Result<usize>
@@ -33,4 +34,31 @@ pub fn fill<R: Read>(input: &mut R, piece: &mut [u8]) -> io::Result<usize>
         done += n;
     }
     Ok(done)
+}
+
+// Reads the input to its end, and says how many bytes came; none where it is longer than the space.
+pub fn whole<R: Read>(input: &mut R, space: &mut [u8]) -> io::Result<Option<usize>>
+    ensures within { IfOk result (λ r. IfSome r (λ n. n ≤ length space.new)) }
+    ensures bytes { IfOk result (λ r. IfSome r (λ n. IfSome (R.remaining input.old) (λ all. all ≡ take n space.new))) }
+{
+    let n = fill(input, space)?;
+    let mut more = [0u8; 1];
+    if input.read(&mut more)? == 0 {
+        Ok(Some(n))
+    } else {
+        Ok(None)
+    }
+}
+
+// Reads a file to its end, and says how many bytes it has; none where it is longer than the space or can't be read to its end.
+pub fn whole_file(rt: &impl Files, name: &str, space: &mut [u8]) -> Option<usize>
+    ensures { IfSome result (λ n. n ≤ length space.new) }
+{
+    let Ok(mut file) = fs::open(rt, name) else {
+        return None;
+    };
+    match whole(&mut file, space) {
+        Ok(read) => read,
+        Err(_) => None,
+    }
 }
