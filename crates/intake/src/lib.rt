@@ -62,3 +62,58 @@ pub fn whole_file(rt: &impl Files, name: &str, space: &mut [u8]) -> Option<usize
         Err(_) => None,
     }
 }
+
+#[cfg(test)]
+mod tests {
+    use super::*;
+
+    // Gives at most three bytes a read, as a pipe may.
+    #[derive(Drop)]
+    struct Dripping<'a> {
+        left: &'a [u8],
+    }
+
+    impl Read for Dripping<'_> {
+        fn read(&mut self, buf: &mut [u8]) -> io::Result<usize> {
+            let n = buf.len().min(self.left.len()).min(3);
+            buf[..n].copy_from_slice(&self.left[..n]);
+            self.left = &self.left[n..];
+            Ok(n)
+        }
+    }
+
+    #[test]
+    fn pieces_are_full_up_to_the_last(rt: HostRuntime) -> io::Result<()> {
+        let mut input = Dripping { left: b"abcdefg" };
+        let mut piece = [0u8; 5];
+        assert_eq!(rt; fill(&mut input, &mut piece)?, 5);
+        assert!(rt; piece == *b"abcde");
+        assert_eq!(rt; fill(&mut input, &mut piece)?, 2);
+        assert!(rt; piece == *b"fgcde");
+        assert_eq!(rt; fill(&mut input, &mut piece)?, 0);
+        Ok(())
+    }
+
+    #[test]
+    fn what_is_longer_than_the_space_is_none(rt: HostRuntime) -> io::Result<()> {
+        let mut space = [0u8; 4];
+        assert!(rt; whole(&mut Dripping { left: b"abcd" }, &mut space)? == Some(4));
+        assert!(rt; space == *b"abcd");
+        assert!(rt; whole(&mut Dripping { left: b"abcde" }, &mut space)? == None);
+        Ok(())
+    }
+
+    #[test]
+    fn a_file_is_read_to_its_end(rt: HostRuntime) -> io::Result<()> {
+        let mut space = [0u8; 4];
+        fs::write(&rt, "whole.txt", "abcd")?;
+        let fits = whole_file(&rt, "whole.txt", &mut space);
+        fs::write(&rt, "whole.txt", "abcde")?;
+        let longer = whole_file(&rt, "whole.txt", &mut space);
+        fs::remove_file(&rt, "whole.txt")?;
+        assert!(rt; fits == Some(4));
+        assert!(rt; longer == None);
+        assert!(rt; whole_file(&rt, "whole.txt", &mut space) == None);
+        Ok(())
+    }
+}
