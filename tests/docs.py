@@ -95,21 +95,21 @@ def closed_forms():
 def is_closed(contract, forms):
     """Whether a contract leaves one answer and one content of each lent memory: an equation, or a closed form, for each of them."""
     head, *clauses = re.split(r"\bensures\b", contract)
-    wanted = (["r"] if "->" in head else []) + re.findall(r"(\w+): &(?:'\w+ )?mut ", head)
+    wanted = (["result"] if "->" in head else []) + re.findall(r"(\w+): &(?:'\w+ )?mut ", head)
     said = set()
     for clause in clauses:
-        m = re.match(r"(?:\w+ )?\{ λ (\w+)\. ⌜ (.*) ⌝ \}$", " ".join(clause.split()))
+        m = re.match(r"(?:\w+ )?\{ (.*) \}$", " ".join(clause.split()))
         if not m:
             return False
-        bound, fact = m.groups()
+        fact = m.group(1)
         left, equals, right = fact.partition(" ≡ ")
-        of_answer = re.fullmatch(r"(?:now )?%s" % bound, left)
-        of_memory = re.fullmatch(r"(?:bits \()?now \((\w+) \.exit\)\)?", left)
-        closed = re.match(r"(\w+) %s (.*)" % bound, fact)
-        if equals and (of_answer or of_memory) and not re.search(r"\.exit|≡|(?<![\w.])%s(?!\w)" % bound, right):
-            said.add("r" if of_answer else of_memory.group(1))
+        of_answer = re.fullmatch(r"result(?:\.now)?", left)
+        of_memory = re.fullmatch(r"(?:bits )?(\w+)\.new", left)
+        closed = re.match(r"(\w+) result (.*)", fact)
+        if equals and (of_answer or of_memory) and not re.search(r"\.new\b|≡|(?<![\w.])result(?!\w)", right):
+            said.add("result" if of_answer else of_memory.group(1))
         elif not equals and closed and closed.group(1) in forms:
-            said.add("r")
+            said.add("result")
         else:
             return False
     return said == set(wanted)
@@ -124,11 +124,29 @@ def wanted(contract):
     return 1 if contract.startswith("()") else 2
 
 
+def is_thin(crate):
+    """A crate NAME_c hands the functions of the crate NAME to programs in C."""
+    return crate.endswith("_c") and bool(files("crates/%s/src/lib.rt" % crate[:-2]))
+
+
+def thin_crates_hold():
+    """Such a crate has every function that the crate below it exports, with the same arguments and the same clauses: its row is that one's."""
+    said = {(crate, name): re.sub(r"\b\w+::", "", " ".join(contract.split())) for crate, name, contract in public_functions()}
+    for crate in sorted({crate for crate, _ in said if is_thin(crate)}):
+        below = {name: contract for (one, name), contract in said.items() if one == crate[:-2]}
+        own = {name: contract for (one, name), contract in said.items() if one == crate}
+        for name in sorted(set(own) | set(below)):
+            if own.get(name) != below.get(name):
+                fault(crate, "`%s` is not what it is in `%s`, or is missing in one of them" % (name, crate[:-2]))
+
+
 def contracts_hold():
     page = "docs/CONTRACTS.md"
     rows = {m.group(1): m.group(0) for m in re.finditer(r"^\| `([a-z_]+::\w+)\(.*$", text(page), re.M)}
     forms = closed_forms()
     for crate, name, contract in public_functions():
+        if is_thin(crate):
+            continue
         row = rows.pop("%s::%s" % (crate, name), None)
         if "ensures" not in contract or "requires" in contract:
             fault(crate, "`%s` is public and its contract has no `ensures`, or has a `requires`" % name)
@@ -169,7 +187,7 @@ def edits_are_told():
 
 
 def crates_are_told():
-    listed = re.findall(r"^([a-z_]+):", text("crates.txt"), re.M)
+    listed = re.findall(r"^([a-z]\w*)(?: [^#:\n]*)?:", text("crates.txt"), re.M)
     for page in ("README.md", "docs/ARCHITECTURE.md"):
         for crate in listed:
             if "`%s`" % crate not in text(page):
@@ -228,13 +246,14 @@ def division_holds():
 
 
 def main():
-    # a landing's note speaks of its own commit, so its names are not looked up later
-    pages = ["README.md"] + files("docs/*.md")
+    # a landing's note speaks of its own commit, and the port's pages set old beside new, so their names are not looked up later
+    pages = ["README.md"] + [page for page in files("docs/*.md") if not page.startswith("docs/PORT")]
     for page in pages:
         page_holds(page)
     for page in pages + files("docs/landings/*.md"):
         is_wrapped(page)
     contracts_hold()
+    thin_crates_hold()
     map_is_full()
     edits_are_told()
     crates_are_told()
@@ -242,7 +261,8 @@ def main():
     division_holds()
     if faults:
         sys.exit("\n".join(faults))
-    print("docs: every name on %d pages is there; each of %d public functions has its row and its edits of code" % (len(pages), len(list(public_functions()))))
+    print("docs: every name on %d pages is there; each of %d public functions has its row and its edits of code"
+          % (len(pages), sum(not is_thin(crate) for crate, _, _ in public_functions())))
 
 
 main()

@@ -37,11 +37,28 @@ def parts_of(text):
     return pieces
 
 
+def clause_at(names, fields):
+    """The name of a clause that pairs of pairs led to: .0, .1.0, .1.1 of three."""
+    k, i = 0, 0
+    while k < len(names) - 1 and i < len(fields) and fields[i] == "1":
+        k, i = k + 1, i + 1
+    if k < len(names) - 1:
+        if i >= len(fields) or fields[i] != "0":
+            return fields
+        i += 1
+    return [names[k]] + fields[i:]
+
+
 class Walk:
     def __init__(self, data):
         self.d = data
         self.places = {p[0]: (k, p) for k, p in enumerate(data["places"])}
         self.said = []
+        self.args = {}
+        for pair in data.get("args") or []:
+            if pair[0].startswith(".args ."):
+                self.args[pair[0][len(".args .") :]] = pair[1][len(".args .") :]
+        self.callees = {p[3].split("::")[-1] for p in data["places"] if p[3]}
 
     def parent(self, place):
         return self.places[place][1][1] if place in self.places else None
@@ -73,7 +90,9 @@ class Walk:
         return None, 0, None
 
     def resolve(self, place, fields):
-        rest = [f for f in fields if f != "before"]
+        rest = list(fields)
+        while rest and rest[0] == "before":
+            rest = rest[1:]
         if not rest:
             return None, place
         step, n, k = self.lookup(place, rest)
@@ -81,25 +100,25 @@ class Walk:
             self.said.append("no step for " + ".".join(fields))
             return ".".join(rest), place
         out, rest = [step], rest[n:]
+        if step in ("args", "ranges") and rest and rest[0] in self.args:
+            rest = [self.args[rest[0]]] + rest[1:]
         if step == "requires" and rest and rest[0].isdigit() and self.d.get("pre"):
-            names = self.d["pre"]["fields"]
-            if int(rest[0]) < len(names):
-                rest = [names[int(rest[0])]] + rest[1:]
+            rest = clause_at(self.d["pre"]["fields"], rest)
         if k is not None and rest:
             callee = self.d["places"][k][3]
-            if norm(rest[0]) == "new" and callee and len(rest) > 1 and rest[1].isdigit():
+            if norm(rest[0]) in ("new", "auto") and callee and len(rest) > 1 and rest[1].isdigit():
                 ones = 0
                 while 1 + ones < len(rest) and rest[1 + ones] == "1":
                     ones += 1
                 names = self.d["params"].get(callee, [])
                 if 1 + ones < len(rest) and rest[1 + ones] == "0" and ones < len(names):
-                    rest = ["new", names[ones]] + rest[2 + ones :]
+                    rest = [norm(rest[0]), names[ones]] + rest[2 + ones :]
                 else:
                     self.said.append("no parameter for " + ".".join(fields))
             elif rest[0] == "ensures" and len(rest) > 1 and rest[1].isdigit():
                 clause = self.d["clauses"][k] if k < len(self.d["clauses"]) else None
-                if clause and int(rest[1]) < len(clause["fields"]):
-                    rest = ["ensures", clause["fields"][int(rest[1])]] + rest[2:]
+                if clause:
+                    rest = ["ensures"] + clause_at(clause["fields"], rest[1:])
         return ".".join(out + rest), place
 
     def turn(self, text, place, roots):
@@ -110,7 +129,10 @@ class Walk:
             name, base, fields = m.group(1), m.group(2), m.group(3)[1:].split(".") if m.group(3) else []
             if base in roots:
                 place, before, root = roots[base]
-                roots[name] = (place, before + [f for f in fields if f != "before"], root)
+                fields = before + fields
+                while fields and fields[0] == "before":
+                    fields = fields[1:]
+                roots[name] = (place, fields, root)
                 aliases.append(name)
 
         def each(m):
@@ -127,8 +149,8 @@ class Walk:
                     got = got[len(head) + 1 :]
                 else:
                     name = root
-            m2 = re.search(r"(?:^|\.)if-not-[^.]*\.(true|false)$", got)
-            if m2:
+            m2 = re.search(r"(?:^|\.)if-not-(\w+)[^.]*\.(true|false)$", got)
+            if m2 and m2.group(1) in self.callees:
                 self.nots = True
                 return f"(ap not {name}.{got})"
             return f"{name}.{got}"
@@ -193,13 +215,15 @@ def split_last(body):
 def clause_by_clause(body, names):
     head, last = split_last(body)
     parts = tuple_parts(last)
+    while parts and len(parts) < len(names) and tuple_parts(parts[-1]):
+        parts = parts[:-1] + tuple_parts(parts[-1])
     if parts and len(parts) == len(names):
         return head + " record {\n      " + ";\n      ".join(f"{n} = {p}" for n, p in zip(names, parts)) + ";\n    }"
     m = re.match(r"\s*(rw (?:[^\s()]+|\((?:[^()]|\([^()]*\))*\))) (\([\s\S]*\))\s*$", last)
     parts = tuple_parts(m.group(2)) if m else None
     if parts and len(parts) == len(names):
         return head + " record {\n      " + ";\n      ".join(f"{n} = {m.group(1)} {'(' + p + ')' if ' ' in p else p}" for n, p in zip(names, parts)) + ";\n    }"
-    return head + " let all = " + last.strip() + " in record { " + "; ".join(f"{n} = all.{k}" for k, n in enumerate(names)) + " }"
+    return head + " let all = " + last.strip() + " in record { " + "; ".join(f"{n} = all{'.1' * k}{'.0' if k < len(names) - 1 else ''}" for k, n in enumerate(names)) + " }"
 
 
 def convert(crate, key, data, folder):
@@ -242,7 +266,7 @@ def convert(crate, key, data, folder):
     needs = data["needs"]
     kinds = {}
     for _, name, block in decls:
-        m = re.search(r":\s*tie\.(\S+)", block[0])
+        m = re.match(r"(?:(?:abbrev|pub|unfoldable) )*[^\s:({]+\s*:\s*tie\.(\S+)", block[0])
         if m:
             kinds[name] = m.group(1)
     answers = [n for n in order if kinds.get(n, "").startswith("Need-")]
@@ -306,18 +330,19 @@ def convert(crate, key, data, folder):
             clauses = [b for b in block[1:] if not b.startswith("unfolding")]
             opened = [b for b in block[1:] if b.startswith("unfolding")]
             if len(clauses) == 1:
-                m2 = re.match(re.escape(name) + r"\s+([^\s=]+)(?:\s+κs)?\s*=\s*([\s\S]*)", clauses[0])
+                m2 = re.match(re.escape(name) + r"\s+([^\s=]+)((?:\s+[^\s=]+)*)\s*=\s*([\s\S]*)", clauses[0])
                 if not m2:
                     said.append("unread clause of " + name)
                     continue
-                arg, body = m2.groups()
+                arg, more, body = m2.groups()
+                more = "".join(" " + w for w in more.split() if w != "κs")
                 if not opened and re.fullmatch(r"search \(?(rules)\)?|omega arith|search \(rules\)", body.strip()):
                     continue
                 body = walk.turn(body, place_of[name], {arg: place_of[name]})
                 asked = data["asked"].get(next(o for o, n in needs if n == goal))
                 if asked and len(asked) > 1:
                     body = clause_by_clause(body, asked)
-                out += comment + [f"pub {goal} : goal.{goal}"] + opened + [f"{goal} {arg} ={'' if body.startswith(chr(10)) else ' '}{body}", ""]
+                out += comment + [f"pub {goal} : goal.{goal}"] + opened + [f"{goal} {arg}{more} ={'' if body.startswith(chr(10)) else ' '}{body}", ""]
             else:
                 said.append("several clauses of " + name)
                 out += comment + [f"pub {goal} : goal.{goal}"] + opened + [b.replace(name, goal, 1) for b in clauses] + [""]

@@ -8,26 +8,19 @@ import os
 import re
 from typing import Dict, Iterator, List, NamedTuple, Optional, Set, Tuple
 
-TOKEN = re.compile(r'"[^"]*"|[(){};,]|\[\]|[^\s(){};,"⌜⌝\[\]]+')
+TOKEN = re.compile(r'"[^"]*"|[(){};,]|\[\]|[^\s(){};,"\[\]]+')
 HEAD = re.compile(r"(?:(?:abbrev|unfoldable)\s+)?(?:pub\s+)?(?:(?:record|data)\s+(\S+)|(\S+)(?:\s+[({].*)?\s+:(?:\s|$))")
 IMPORT = re.compile(r"(?:ghost )?use (\S+)\.\{(.*)\};?$")
 ALIAS = re.compile(r"(?:ghost )?use (\S+) as (\S+?);?$")
-OURS = re.compile(r"Rattle·([^·.]+)(?:·specs|·proofs)?\.(specs|proofs)\.(.+)$")
 KEYWORDS = set("let in λ → = : where unfolding with of rec absurd record use module pub search omega rw simp cc Type × ∀ Σ . .. _ |".split())
 
 Name = Tuple[str, str]  # a module, and a name in it
 
 
 def module_of(path: str) -> Optional[str]:
-    """The file's name for importers: crates/c/specs/F.antt is Rattle·c.specs.F."""
+    """The file's name for importers: crates/c/specs/F.antt is Rattle.c.specs.F."""
     m = re.match(r"crates/([^/]+)/(specs|proofs)/(.+)\.antt$", path)
-    return "Rattle·%s.%s.%s" % (m.group(1), m.group(2), m.group(3).replace("/", ".")) if m else None
-
-
-def one_name(module: str) -> str:
-    """A crate names its own files in another way than the others do; this is the name that the others use."""
-    m = OURS.match(module)
-    return "Rattle·%s.%s.%s" % m.groups() if m else module
+    return "Rattle.%s.%s.%s" % (m.group(1), m.group(2), m.group(3).replace("/", ".")) if m else None
 
 
 def tokens(text: str) -> List[str]:
@@ -35,18 +28,26 @@ def tokens(text: str) -> List[str]:
 
 
 def words(toks: List[str]) -> Set[str]:
-    """The names among the tokens; `.field` is none, and the dot behind a bound variable is not part of it."""
-    return {t.rstrip(".") or t for t in toks if not t.startswith((".", '"')) and t not in "(){};,"}
+    """The names among the tokens, a path and its beginnings each; `.field` is none, and the dot behind a bound variable is not part of it."""
+    found: Set[str] = set()
+    for t in toks:
+        if t.startswith((".", '"')) or t in "(){};,":
+            continue
+        name = t.rstrip(".") or t
+        while name:
+            found.add(name)
+            name = name.rpartition(".")[0]
+    return found
 
 
 def spelled(name: str) -> List[str]:
-    """How a name occurs in a text: an operator such as _⊕_ by its parts, any other as it is."""
-    parts = [p for p in name.split("_") if p]
-    return parts if "_" in name and parts else [name]
+    """How a name occurs in a text: an operator such as ◌⊕◌ by its parts, any other as it is."""
+    parts = [p for p in name.split("◌") if p]
+    return parts if "◌" in name and parts else [name]
 
 
 def cited(name: str, used: Set[str]) -> bool:
-    return name in used or ("_" in name and all(p in used for p in spelled(name)))
+    return name in used or ("◌" in name and all(p in used for p in spelled(name)))
 
 
 class Item(NamedTuple):
@@ -87,11 +88,11 @@ class Source:
         if m:
             for entry in filter(None, (n.strip() for n in m.group(2).split(","))):
                 name, _, local = entry.partition(" as ")
-                self.imports[local or name] = (one_name(m.group(1)), name)
+                self.imports[local or name] = (m.group(1), name)
             return
         m = ALIAS.match(line)
         if m:
-            self.aliases[m.group(2)] = one_name(m.group(1))
+            self.aliases[m.group(2)] = m.group(1)
 
     def whole_lines(self) -> Iterator[Tuple[int, int, int, str]]:
         """Each line that says something: its number, the last of its numbers, its indentation and text. A module's head is one line."""
@@ -148,7 +149,7 @@ class Source:
         return None
 
     def operators(self) -> Dict[str, str]:
-        return {p: n for n in list(self.imports) + list(self.names) if "_" in n for p in spelled(n)}
+        return {p: n for n in list(self.imports) + list(self.names) if "◌" in n for p in spelled(n)}
 
     def uses(self, toks: List[str]) -> Set[Name]:
         """What these tokens cite. An operator counts as cited by any of its parts."""
@@ -167,7 +168,7 @@ class Source:
 
 def crates() -> List[str]:
     with open("crates.txt", encoding="utf-8") as f:
-        return [l.split(":")[0].strip() for l in f if l.strip() and not l.startswith("#")]
+        return [l.split(":")[0].split()[0] for l in f if l.strip() and not l.startswith("#")]
 
 
 def files(crate: str, *folders: str) -> List[str]:

@@ -4,7 +4,7 @@ import re
 from collections import defaultdict
 from typing import Dict, Iterable, List, Set, Tuple
 
-from sources import ALIAS, IMPORT, KEYWORDS, Name, Source, cited, crates, files, one_name, read, read_all, tokens, words
+from sources import ALIAS, IMPORT, KEYWORDS, Name, Source, cited, crates, files, read, read_all, tokens, words
 
 
 # ---- imports
@@ -62,6 +62,10 @@ def imports(names: List[str], drop: bool) -> int:
 
 # ---- unused
 
+# Answers and invariants of a function stand in a folder of its own below proofs/.
+ANSWERS = re.compile(r"/proofs/.+/(?:Proof|Answers|Invariants)\.antt$")
+
+
 def documented() -> Set[str]:
     """Names between backquotes in the two documents that list theorems and contracts."""
     found: Set[str] = set()
@@ -79,7 +83,7 @@ def handed_on(source: Source) -> Iterable[Tuple[Name, Name]]:
         m = IMPORT.match(line[4:]) if line.startswith("pub use ") else None
         for entry in m.group(2).split(",") if m else []:
             first, _, last = entry.strip().partition(" as ")
-            yield (source.module, last or first), (one_name(m.group(1)), first)
+            yield (source.module, last or first), (m.group(1), first)
 
 
 def reached(sources: List[Source]) -> Set[Name]:
@@ -94,7 +98,7 @@ def reached(sources: List[Source]) -> Set[Name]:
             cites[name].add(behind)
         for i in s.items:
             cites[(s.module, i.name)] |= s.uses(tokens(i.params + "\n" + i.text))
-            if i.name in listed or s.path.endswith(("/Proof.antt", "/Examples.antt")):
+            if i.name in listed or ANSWERS.search(s.path) or s.path.endswith("/Examples.antt"):
                 open_.add((s.module, i.name))
     seen: Set[Name] = set()
     while open_:
@@ -186,7 +190,9 @@ def shape(source: Source, name: str, toks: List[str]) -> str:
         elif t.startswith((".", '"')) or t in "(){};," or t in KEYWORDS or t[0].isdigit():
             out.append(t)
         else:
-            out.append(numbers.setdefault(bare, "v%d" % len(numbers)))
+            first, dot, fields = bare.partition(".")
+            target = source.resolve(first) if dot else None
+            out.append(("%s.%s" % target if target else numbers.setdefault(first, "v%d" % len(numbers))) + dot + fields)
     return " ".join(t for t in out if t != "→")  # the parameters of a module have none behind them
 
 
@@ -210,7 +216,7 @@ def groups(pairs: Iterable[Tuple[str, str]]) -> List[List[str]]:
 def alike(names: List[str]) -> int:
     statements, bodies, code = [], [], []
     for s in read_all(names or crates()):
-        for i in s.items if not s.path.endswith("/Proof.antt") else []:
+        for i in s.items if not ANSWERS.search(s.path) else []:
             place = "%s:%d: %s" % (i.path, i.first, i.name)
             said, body = i.parts()
             said = one_binder(said)
@@ -238,32 +244,22 @@ def line_count(paths: Iterable[str]) -> int:
 
 
 def figures(log: str) -> int:
-    """A row a crate; at the end how many times the seconds of checks those of edits are, since edits are what a gate mostly costs, and what both
-    come to. A log of checks alone is enough for that."""
-    checks = {c: int(n) for c, n in re.findall(r"^rt: (\S+) proved \((\d+) s\)", log, re.M)}
-    tried: Dict[str, int] = defaultdict(int)
-    for crate, n in re.findall(r"must-fail (\w+)/\S+: refused.*?(\d+) s\)", log):
-        tried[crate] += int(n)
-    rows = [("crate", "code", "spec", "proof", "edits", "seconds", "seconds of edits")]
-    wanted = 0
+    """A row a crate: its lines and its edits, and what the log of `rt ci` says of it: whether it is proved, and what its edits came to."""
+    proved = dict(re.findall(r"^rt: (\w+) (proved|NOT PROVED|is kept)", log, re.M))
+    tried: Dict[str, Dict[str, int]] = defaultdict(lambda: defaultdict(int))
+    for crate, what in re.findall(r"^rt: must-fail (\w+)/[^\s:]+: (refused|BAD EDIT|NOT REFUSED|NOT TRIED)", log, re.M):
+        tried[crate][what] += 1
+    rows = [("crate", "code", "spec", "proof", "edits", "proved", "refused", "not so")]
     for c in crates():
         folder = os.path.join("crates", c, "must-fail")
         edits = sum(n.endswith(".edit") for n in os.listdir(folder)) if os.path.isdir(folder) else 0
-        wanted += edits * checks.get(c, 0)
-        rows.append((c, *(str(line_count(files(c, f))) for f in ("src", "specs", "proofs")),
-                     str(edits), str(checks.get(c, "")), str(tried.get(c, ""))))
-    rows.append(("all", *(str(sum(int(r[k] or 0) for r in rows[1:])) for k in range(1, 5)),
-                 str(sum(checks.values()) if checks else ""), str(sum(tried.values()) if tried else "")))
+        refused = tried[c].pop("refused", 0)
+        rows.append((c, *(str(line_count(files(c, f))) for f in ("src", "specs", "proofs")), str(edits),
+                     {"proved": "yes", "is kept": "kept", "NOT PROVED": "no"}.get(proved.get(c, ""), ""), str(refused or ""), str(sum(tried[c].values()) or "")))
+    rows.append(("all", *(str(sum(int(r[k] or 0) for r in rows[1:])) for k in range(1, 5)), "%d of %d" % (sum(r[5] in ("yes", "kept") for r in rows[1:]), len(rows) - 1)
+                 if proved else "", *(str(sum(int(r[k] or 0) for r in rows[1:]) or "") for k in (6, 7))))
     for n, row in enumerate(rows):
         print("| " + " | ".join(row) + " |")
         if n == 0:
             print("|---" * len(row) + "|")
-    if checks and tried:
-        print("edits take %.1f times as long as checks" % (sum(tried.values()) / sum(checks.values())))
-    elif checks:
-        # each edit checks its crate once more
-        print("edits would take %.1f times as long as checks" % (wanted / sum(checks.values())))
-    if checks:
-        minutes = (sum(checks.values()) + (sum(tried.values()) or wanted)) / 120
-        print("two at a time, checks and edits: %.0f minutes, and %.0f on a machine of half the speed" % (minutes, 2 * minutes))
     return 0

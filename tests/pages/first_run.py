@@ -12,17 +12,22 @@ import tempfile
 from .server import RUN, fail, same
 
 CHECKER = """#!/usr/bin/env bash
+[ "$*" = run ] || exit 2
+name=${PWD##*/}
+exec 3>&1 >&2
 echo begin >>"$HOME/turns"
+echo "rt: chose --jobs 2 for low"
 echo "fn low::twice: proved"
 sleep 0.7
-echo "rt: low proved (1 s)"
+echo "rt: chose --jobs 2 for $name"
 sleep 0.7
-[ ! -e "$HOME/fails" ] || { echo "rt: $2 NOT PROVED (exit 1, 0 s)"; exit 1; }
-mkdir -p target/bin
-printf '#!/bin/sh\\necho shown\\n' >"target/bin/$2"
-chmod +x "target/bin/$2"
-echo "rt: $2 proved (1 s)"
+[ ! -e "$HOME/fails" ] || { echo "logic=not-proved functions=1"; exit 1; }
+mkdir -p out
+printf '#!/bin/sh\\necho shown\\n' >"out/$name"
+chmod +x "out/$name"
 echo end >>"$HOME/turns"
+echo "rt: running out/$name; to give it other input, run that file yourself"
+exec "out/$name" >&3
 """
 
 
@@ -38,13 +43,12 @@ class Tree:
         self.folder = folder
         os.makedirs(self.at("run"))
         shutil.copy(os.path.join(RUN, "start"), self.at("run", "start"))
-        put(self.at("crates.txt"), "# a comment\nlow:\nother:\nhigh: low io\nhigher: high low\n")
+        put(self.at("crates.txt"), "# a comment\nlow:\nother staticlib: low\nhigh: low bytes\nhigher: high low\n")
         put(self.at("crates", "low", "src", "lib.rt"), "// The lowest of all.\n")
         for name in ("high", "higher"):
             put(self.at("crates", name, "src", "main.rt"), "// Stands on it.\n")
         put(self.at("kit", "bin", "rt"), CHECKER)
-        put(self.at("kit", "on", os.uname().machine, "toolchain", "lib", "ld-linux-x86-64.so.2"), '#!/bin/sh\nexec "$3"\n')
-        self.env = {**os.environ, "HOME": folder, "PATH": self.at("kit", "bin") + ":" + os.environ["PATH"], "RATTLE_HOME": self.at("kit")}
+        self.env = {**os.environ, "HOME": folder, "PATH": self.at("kit", "bin") + ":" + os.environ["PATH"]}
 
     def at(self, *names):
         return os.path.join(self.folder, *names)
@@ -87,7 +91,7 @@ def moving(tree):
 
 def together(tree):
     """Two at once, as in a pipe of two new programs: the checker runs for one, then for the other."""
-    os.unlink(tree.at("target", "bin", "high"))
+    os.unlink(tree.at("crates", "high", "out", "high"))
     os.unlink(tree.at("turns"))
     both = [subprocess.Popen(tree.words(name), env=tree.env, stdout=subprocess.PIPE, stderr=subprocess.DEVNULL) for name in ("high", "higher")]
     same("two first runs", [p.communicate()[0] for p in both], [b"shown\n"] * 2)
@@ -102,7 +106,7 @@ def failing(tree):
         "run/high: it is proved and built first, 2 crates; the checker's lines are in target/build/high.log",
         "run/high: it could not be proved and built; what the checker says is in %s" % tree.at("target", "build", "high.log")]))
     with open(tree.at("target", "build", "high.log"), encoding="utf-8") as f:
-        same("the checker's lines", f.read().splitlines()[-1], "rt: high NOT PROVED (exit 1, 0 s)")
+        same("the checker's lines", f.read().splitlines()[-1], "logic=not-proved functions=1")
 
 
 def main():

@@ -9,8 +9,9 @@ ghost use Rattle.std.specs.Prelude.{◌≤◌};
 use crate::{input, reading, say, writing};
 use packet::Written;
 use sister::{Command, Opened};
+use std::io;
 
-fn command(c: Command) {
+fn command(rt: &impl Print, c: Command) -> io::Result<()> {
     match c {
         Command::Clock {
             year,
@@ -20,19 +21,19 @@ fn command(c: Command) {
             minute,
             second,
         } => {
-            say::one(b" clock", year as u64);
-            say::number(month as u64);
-            say::number(day as u64);
-            say::number(hour as u64);
-            say::number(minute as u64);
-            say::number(second as u64);
+            say::one(rt, b" clock", year as u64)?;
+            say::number(rt, month as u64)?;
+            say::number(rt, day as u64)?;
+            say::number(rt, hour as u64)?;
+            say::number(rt, minute as u64)?;
+            say::number(rt, second as u64)
         }
-        Command::Resource { length } => say::one(b" resource", length as u64),
+        Command::Resource { length } => say::one(rt, b" resource", length as u64),
         Command::Lock { khz, count } => {
-            say::one(b" lock", khz as u64);
-            say::number(count as u64);
+            say::one(rt, b" lock", khz as u64)?;
+            say::number(rt, count as u64)
         }
-        Command::Unknown => say::text(b" unknown"),
+        Command::Unknown => say::text(rt, b" unknown"),
     }
 }
 
@@ -48,70 +49,74 @@ fn codes_length(c: Command) -> usize
 }
 
 // Digits or bytes of at most 6000, 1000 to a word.
-fn all_digits(b: &[u8]) {
-    say::digits(octets::part(b, 0, 1000));
-    say::digits(octets::part(b, 1000, 1000));
-    say::digits(octets::part(b, 2000, 1000));
-    say::digits(octets::part(b, 3000, 1000));
-    say::digits(octets::part(b, 4000, 1000));
-    say::digits(octets::part(b, 5000, 1000));
+fn all_digits(rt: &impl Print, b: &[u8]) -> io::Result<()> {
+    say::digits(rt, octets::part(b, 0, 1000))?;
+    say::digits(rt, octets::part(b, 1000, 1000))?;
+    say::digits(rt, octets::part(b, 2000, 1000))?;
+    say::digits(rt, octets::part(b, 3000, 1000))?;
+    say::digits(rt, octets::part(b, 4000, 1000))?;
+    say::digits(rt, octets::part(b, 5000, 1000))
 }
 
 // What was written at the start of the memory lent, and whether the rest is as it was.
-fn memory(w: Written, lent: &[u8]) {
-    say::one(b"encode", w.answer as u64);
-    say::hex(octets::part(lent, 0, input::least(w.length, 1600)));
-    say::hex(octets::part(octets::part(lent, 0, w.length), 1600, 1600));
+fn memory(rt: &impl Print, w: Written, lent: &[u8]) -> io::Result<()> {
+    say::one(rt, b"encode", w.answer as u64)?;
+    say::hex(rt, octets::part(lent, 0, input::least(w.length, 1600)))?;
+    say::hex(
+        rt,
+        octets::part(octets::part(lent, 0, w.length), 1600, 1600),
+    )?;
     if say::all(octets::part(lent, w.length, 3200), 0xEE) {
-        say::text(b"\nthe rest as it was\n");
+        say::text(rt, b"\nthe rest as it was\n")
     } else {
-        say::text(b"\nthe rest CHANGED\n");
+        say::text(rt, b"\nthe rest CHANGED\n")
     }
 }
 
 // All that was read. Beside a refusal it should be nothing.
-fn shown(o: Opened, address: &[u8]) {
+fn shown(rt: &impl Print, o: Opened, address: &[u8]) -> io::Result<()> {
     let c = o.command;
     let codes = o.codes;
     let n = codes_length(c);
-    say::one(b"decode", o.answer as u64);
-    command(c);
-    say::text(b"\naddress");
-    say::hex(address);
-    say::text(b"\ncodes");
-    all_digits(octets::part(&codes, 0, n));
+    say::one(rt, b"decode", o.answer as u64)?;
+    command(rt, c)?;
+    say::text(rt, b"\naddress")?;
+    say::hex(rt, address)?;
+    say::text(rt, b"\ncodes")?;
+    all_digits(rt, octets::part(&codes, 0, n))?;
     if !say::all(octets::part(&codes, n, 5865), 0) {
-        say::text(b"\na code past the last");
+        say::text(rt, b"\na code past the last")?;
     }
-    say::text(b"\n");
+    say::text(rt, b"\n")
 }
 
 // The content that a command is.
-fn carried(c: Command, codes: &[u8]) {
+fn carried(rt: &impl Print, c: Command, codes: &[u8]) -> io::Result<()> {
     let digits = carry::digits_of(c, codes);
-    say::text(b"content ");
-    reading::content(carry::content_of(c));
-    say::text(b"\ndigits");
-    say::digits(&digits);
-    say::text(b"\n");
+    say::text(rt, b"content ")?;
+    reading::content(rt, carry::content_of(c))?;
+    say::text(rt, b"\ndigits")?;
+    say::digits(rt, &digits)?;
+    say::text(rt, b"\n")
 }
 
-fn back(o: Opened, address: &[u8]) {
+fn back(rt: &impl Print, o: Opened, address: &[u8]) -> io::Result<()> {
     let c = o.command;
     let codes = o.codes;
     let lent = octets::part(&codes, 0, codes_length(c));
-    carried(c, lent);
-    encoded(c, address, lent, 3200);
+    carried(rt, c, lent)?;
+    encoded(rt, c, address, lent, 3200)
 }
 
-pub(crate) fn read(b: &[u8]) {
+pub(crate) fn read(rt: &impl Print, b: &[u8]) -> io::Result<()> {
     let bytes = octets::part(b, 3, 65536);
     let address = sister::address(bytes);
     let o = sister::read(bytes);
-    shown(o, address);
+    shown(rt, o, address)?;
     if o.answer == 0 {
-        back(o, address);
+        back(rt, o, address)?;
     }
+    Ok(())
 }
 
 fn given(b: &[u8]) -> Command {
@@ -135,31 +140,39 @@ fn given(b: &[u8]) -> Command {
 }
 
 // Writes into the first n bytes of memory, or into all of it.
-fn written(c: Command, address: &[u8], codes: &[u8], n: usize, lent: &mut [u8]) {
+fn written(
+    rt: &impl Print,
+    c: Command,
+    address: &[u8],
+    codes: &[u8],
+    n: usize,
+    lent: &mut [u8],
+) -> io::Result<()> {
     let e = input::least(n, lent.len());
     let w = sister::write(c, address, codes, &mut lent[0..e]);
-    memory(w, lent);
+    memory(rt, w, lent)
 }
 
-fn encoded(c: Command, address: &[u8], codes: &[u8], n: usize) {
-    written(c, address, codes, n, &mut [0xEEu8; 3200]);
+fn encoded(rt: &impl Print, c: Command, address: &[u8], codes: &[u8], n: usize) -> io::Result<()> {
+    written(rt, c, address, codes, n, &mut [0xEEu8; 3200])
 }
 
-pub(crate) fn write(b: &[u8]) {
+pub(crate) fn write(rt: &impl Print, b: &[u8]) -> io::Result<()> {
     let n = input::two(b, 15) as usize;
     encoded(
+        rt,
         given(b),
         octets::part(b, 19, n),
         octets::part(b, 19 + n, 65536),
         input::two(b, 13) as usize,
-    );
+    )
 }
 
-pub(crate) fn carry(b: &[u8]) {
+pub(crate) fn carry(rt: &impl Print, b: &[u8]) -> io::Result<()> {
     let digits = octets::part(b, 12, 35);
-    say::text(b"carried");
-    command(carry::command_of(writing::content(b)));
-    say::text(b"\ncode");
-    say::digits(carry::code_of(writing::content(b), digits));
-    say::text(b"\n");
+    say::text(rt, b"carried")?;
+    command(rt, carry::command_of(writing::content(b)))?;
+    say::text(rt, b"\ncode")?;
+    say::digits(rt, carry::code_of(writing::content(b), digits))?;
+    say::text(rt, b"\n")
 }

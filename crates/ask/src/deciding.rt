@@ -1,32 +1,31 @@
 // D, a state's two numbers, how many bytes the symbol's numbers have (two bytes), the numbers, at most 40, of eight bytes each: the answer, the
 // verdict, and the patterns of its product and of the state behind it.
 use crate::{input, say};
-use libc::STDOUT_FILENO;
 use samples::{Pair, Verdict};
+use std::io;
 
 // A space and a number's pattern in hex; a word for what has none.
-fn pattern(x: f64) {
+fn pattern(rt: &impl Print, x: f64) -> io::Result<()> {
     if x != x {
-        say::text(b" nan");
-        return;
+        return say::text(rt, b" nan");
     }
-    say::text(b" ");
-    io::print_hex(STDOUT_FILENO, f64::to_bits(x), 16);
+    let bits = f64::to_bits(x);
+    print!(rt; " {bits:016x}")
 }
 
-fn verdict(v: Verdict) {
+fn verdict(rt: &impl Print, v: Verdict) -> io::Result<()> {
     match v {
         Verdict::Zero(product) => {
-            say::text(b" zero");
-            pattern(product);
+            say::text(rt, b" zero")?;
+            pattern(rt, product)
         }
         Verdict::One(product) => {
-            say::text(b" one");
-            pattern(product);
+            say::text(rt, b" one")?;
+            pattern(rt, product)
         }
         Verdict::Undecided(product) => {
-            say::text(b" undecided");
-            pattern(product);
+            say::text(rt, b" undecided")?;
+            pattern(rt, product)
         }
     }
 }
@@ -43,7 +42,7 @@ fn numbers(b: &[u8]) -> [f64; 40] {
 }
 
 // A whole record.
-pub(crate) fn record(b: &[u8]) {
+pub(crate) fn record(rt: &impl Print, b: &[u8]) -> io::Result<()> {
     let state = Pair {
         inphase: samples::number(b, 1),
         quadrature: samples::number(b, 9),
@@ -51,11 +50,11 @@ pub(crate) fn record(b: &[u8]) {
     let n = input::least(input::two(b, 17) as usize / 8, 40);
     let all = numbers(b);
     let d = samples::decide(state, &all[0..n]);
-    say::one(b"decide", d.answer as u64);
+    say::one(rt, b"decide", d.answer as u64)?;
     let v = d.verdict;
-    verdict(v);
+    verdict(rt, v)?;
     let p = d.state;
-    pattern(p.inphase);
-    pattern(p.quadrature);
-    say::text(b"\n");
+    pattern(rt, p.inphase)?;
+    pattern(rt, p.quadrature)?;
+    say::text(rt, b"\n")
 }

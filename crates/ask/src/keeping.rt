@@ -7,6 +7,7 @@
 use crate::{input, say};
 use collector::{Holding, Holdings, Total};
 use receiver::Receiver;
+use std::io;
 
 #[derive(Clone, Copy)]
 pub(crate) struct Kept {
@@ -30,43 +31,51 @@ fn bytes_of(frames: usize) -> usize {
 
 // With so many bytes of the one memory lent, and of the other.
 fn received(
+    rt: &impl Print,
     r: Receiver,
     delivery: &[u8],
     n: usize,
     k: usize,
     memory: &mut [u8],
     counts: &mut [u8],
-) -> Receiver {
+) -> io::Result<Receiver> {
     let e = input::least(n, memory.len());
     let f = input::least(k, counts.len());
     let got = receiver::receive(r, delivery, &mut memory[0..e], &mut counts[0..f]);
-    say::one(b"receive", got.answer as u64);
-    say::number(got.frames as u64);
-    say::memory(memory, bytes_of(got.frames));
-    say::text(b"mended");
-    say::memory(counts, got.frames);
-    got.receiver
+    say::one(rt, b"receive", got.answer as u64)?;
+    say::number(rt, got.frames as u64)?;
+    say::memory(rt, memory, bytes_of(got.frames))?;
+    say::text(rt, b"mended")?;
+    say::memory(rt, counts, got.frames)?;
+    Ok(got.receiver)
 }
 
-fn offered(c: Holdings, frame: &[u8]) -> Holdings {
+fn offered(rt: &impl Print, c: Holdings, frame: &[u8]) -> io::Result<Holdings> {
     let o = collector::offer(c, frame);
-    say::one(b"offer", o.answer as u64);
-    say::text(b"\n");
-    o.collector
+    say::one(rt, b"offer", o.answer as u64)?;
+    say::text(rt, b"\n")?;
+    Ok(o.collector)
 }
 
-fn released(c: Holdings, level: u8, version: u8) -> Holdings {
+fn released(rt: &impl Print, c: Holdings, level: u8, version: u8) -> io::Result<Holdings> {
     let o = collector::release(c, level, version);
-    say::one(b"release", o.answer as u64);
-    say::text(b"\n");
-    o.collector
+    say::one(rt, b"release", o.answer as u64)?;
+    say::text(rt, b"\n")?;
+    Ok(o.collector)
 }
 
-fn copied(c: Holdings, level: u8, version: u8, n: usize, memory: &mut [u8]) {
+fn copied(
+    rt: &impl Print,
+    c: Holdings,
+    level: u8,
+    version: u8,
+    n: usize,
+    memory: &mut [u8],
+) -> io::Result<()> {
     let e = input::least(n, memory.len());
     let a = collector::copy(c, level, version, &mut memory[0..e]);
-    say::one(b"copy", a.answer as u64);
-    say::memory(memory, a.length);
+    say::one(rt, b"copy", a.answer as u64)?;
+    say::memory(rt, memory, a.length)
 }
 
 fn pending(b: &[u8]) -> Receiver {
@@ -102,9 +111,10 @@ fn with_place(c: Holdings, b: &[u8]) -> Holdings {
 }
 
 // The receiver behind a record.
-fn receiver_after(r: Receiver, b: &[u8]) -> Receiver {
+fn receiver_after(rt: &impl Print, r: Receiver, b: &[u8]) -> io::Result<Receiver> {
     match octets::byte(b, 0) {
         b'R' => received(
+            rt,
             r,
             octets::part(b, 6, 65536),
             input::two(b, 1) as usize,
@@ -112,40 +122,41 @@ fn receiver_after(r: Receiver, b: &[u8]) -> Receiver {
             &mut [0xEEu8; 400],
             &mut [0xEEu8; 60],
         ),
-        b'N' => receiver::fresh(),
-        b'S' => pending(b),
-        _ => r,
+        b'N' => Ok(receiver::fresh()),
+        b'S' => Ok(pending(b)),
+        _ => Ok(r),
     }
 }
 
 // The collector behind a record.
-fn collector_after(c: Holdings, b: &[u8]) -> Holdings {
+fn collector_after(rt: &impl Print, c: Holdings, b: &[u8]) -> io::Result<Holdings> {
     match octets::byte(b, 0) {
-        b'O' => offered(c, octets::part(b, 3, 65536)),
-        b'F' => released(c, octets::byte(b, 1), octets::byte(b, 2)),
+        b'O' => offered(rt, c, octets::part(b, 3, 65536)),
+        b'F' => released(rt, c, octets::byte(b, 1), octets::byte(b, 2)),
         b'C' => {
             copied(
+                rt,
                 c,
                 octets::byte(b, 1),
                 octets::byte(b, 2),
                 input::two(b, 3) as usize,
                 &mut [0xEEu8; 300],
-            );
-            c
+            )?;
+            Ok(c)
         }
-        b'N' => collector::empty(),
-        b'H' => with_place(c, b),
-        _ => c,
+        b'N' => Ok(collector::empty()),
+        b'H' => Ok(with_place(c, b)),
+        _ => Ok(c),
     }
 }
 
-pub(crate) fn after(k: Kept, b: &[u8]) -> Kept {
+pub(crate) fn after(rt: &impl Print, k: Kept, b: &[u8]) -> io::Result<Kept> {
     let r = k.receiver;
     let c = k.collector;
-    let next = receiver_after(r, b);
-    let held = collector_after(c, b);
-    Kept {
+    let next = receiver_after(rt, r, b)?;
+    let held = collector_after(rt, c, b)?;
+    Ok(Kept {
         receiver: next,
         collector: held,
-    }
+    })
 }

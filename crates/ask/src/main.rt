@@ -20,7 +20,7 @@ mod writing;
 
 ghost use Rattle.std.specs.Prelude.{◌≤◌};
 
-use libc::STDIN_FILENO;
+use std::io;
 
 // How long the record is that begins a list; 0 where none does, or only a part of one.
 fn length_of(b: &[u8]) -> usize
@@ -70,32 +70,32 @@ fn length_of(b: &[u8]) -> usize
 }
 
 // The records that ask once and leave nothing; a word where the state is set, and a name.
-fn asked(b: &[u8]) {
+fn asked(rt: &impl Print, b: &[u8]) -> io::Result<()> {
     match octets::byte(b, 0) {
-        b'P' => reading::record(b),
-        b'W' => writing::record(b),
-        b'A' => sending::record(b),
-        b'K' => sending::check(b),
-        b'T' => telling::tell(b),
-        b'J' => telling::join(b),
-        b'E' => shelving::add(b),
-        b'U' => shelving::summarize(b),
-        b'M' => shelving::make(b),
-        b'L' => shelving::line(b),
-        b'D' => deciding::record(b),
-        b'B' => commanding::read(b),
-        b'G' => commanding::write(b),
-        b'V' => commanding::carry(b),
-        b'N' => say::text(b"new\n"),
-        b'S' | b'H' => say::text(b"set\n"),
-        b'#' => say::name(b),
-        _ => (),
+        b'P' => reading::record(rt, b),
+        b'W' => writing::record(rt, b),
+        b'A' => sending::record(rt, b),
+        b'K' => sending::check(rt, b),
+        b'T' => telling::tell(rt, b),
+        b'J' => telling::join(rt, b),
+        b'E' => shelving::add(rt, b),
+        b'U' => shelving::summarize(rt, b),
+        b'M' => shelving::make(rt, b),
+        b'L' => shelving::line(rt, b),
+        b'D' => deciding::record(rt, b),
+        b'B' => commanding::read(rt, b),
+        b'G' => commanding::write(rt, b),
+        b'V' => commanding::carry(rt, b),
+        b'N' => say::text(rt, b"new\n"),
+        b'S' | b'H' => say::text(rt, b"set\n"),
+        b'#' => say::name(rt, b),
+        _ => Ok(()),
     }
 }
 
-fn main() {
-    let mut records = io::large_buffer();
-    let n = io::read_full(STDIN_FILENO, &mut records);
+fn main(rt: HostRuntime) -> io::Result<()> {
+    let mut records = [0u8; 65536];
+    let n = intake::fill(&mut rt.reader(), &mut records)?;
     let all = octets::part(&records, 0, n);
     let end = input::least(all.len(), 65536);
     let mut kept = keeping::begin();
@@ -103,12 +103,12 @@ fn main() {
     while i < end {
         let length = length_of(octets::part(all, i, 65536));
         if length == 0 {
-            say::text(b"no whole record\n");
-            return;
+            return say::text(&rt, b"no whole record\n");
         }
-        asked(octets::part(all, i, length));
-        kept = keeping::after(kept, octets::part(all, i, length));
-        say::text(b"\n");
+        asked(&rt, octets::part(all, i, length))?;
+        kept = keeping::after(&rt, kept, octets::part(all, i, length))?;
+        say::text(&rt, b"\n")?;
         i += length;
     }
+    Ok(())
 }

@@ -3,15 +3,16 @@ ghost use Rattle.std.specs.Prelude.{◌≤◌};
 
 use crate::say;
 use packet::{Content, Fields, Opened};
+use std::io;
 
-pub(crate) fn content(c: Content) {
+pub(crate) fn content(rt: &impl Print, c: Content) -> io::Result<()> {
     match c {
-        Content::Raw => say::text(b"raw"),
-        Content::Frequencies { count } => say::one(b"frequencies", count as u64),
-        Content::Address { length } => say::one(b"address", length as u64),
+        Content::Raw => say::text(rt, b"raw"),
+        Content::Frequencies { count } => say::one(rt, b"frequencies", count as u64),
+        Content::Address { length } => say::one(rt, b"address", length as u64),
         Content::Keep { on, period } => {
-            say::one(b"keep", on as u64);
-            say::number(period as u64);
+            say::one(rt, b"keep", on as u64)?;
+            say::number(rt, period as u64)
         }
         Content::Clock {
             year,
@@ -21,22 +22,22 @@ pub(crate) fn content(c: Content) {
             minute,
             second,
         } => {
-            say::one(b"clock", year as u64);
-            say::number(month as u64);
-            say::number(day as u64);
-            say::number(hour as u64);
-            say::number(minute as u64);
-            say::number(second as u64);
+            say::one(rt, b"clock", year as u64)?;
+            say::number(rt, month as u64)?;
+            say::number(rt, day as u64)?;
+            say::number(rt, hour as u64)?;
+            say::number(rt, minute as u64)?;
+            say::number(rt, second as u64)
         }
-        Content::Reset { change } => say::one(b"reset", change as u64),
-        Content::Factory => say::text(b"factory"),
-        Content::Drill { action } => say::one(b"drill", action as u64),
+        Content::Reset { change } => say::one(rt, b"reset", change as u64),
+        Content::Factory => say::text(rt, b"factory"),
+        Content::Drill { action } => say::one(rt, b"drill", action as u64),
         Content::Text { kind, set, length } => {
-            say::one(b"text", kind as u64);
-            say::number(set as u64);
-            say::number(length as u64);
+            say::one(rt, b"text", kind as u64)?;
+            say::number(rt, set as u64)?;
+            say::number(rt, length as u64)
         }
-        Content::Hold { serial } => say::one(b"hold", serial as u64),
+        Content::Hold { serial } => say::one(rt, b"hold", serial as u64),
     }
 }
 
@@ -58,72 +59,79 @@ fn codes_length(n: usize) -> usize
 }
 
 // The type and what is the content's own.
-fn first_fields(f: Fields) {
+fn first_fields(rt: &impl Print, f: Fields) -> io::Result<()> {
     let digits = f.digits;
     let c = f.content;
-    say::one(b"type", f.typenumber as u64);
-    say::one(b"\ncount", f.codes as u64);
-    say::text(b"\ncontent ");
-    content(c);
-    say::text(b"\ndigits");
-    say::digits(&digits);
+    say::one(rt, b"type", f.typenumber as u64)?;
+    say::one(rt, b"\ncount", f.codes as u64)?;
+    say::text(rt, b"\ncontent ")?;
+    content(rt, c)?;
+    say::text(rt, b"\ndigits")?;
+    say::digits(rt, &digits)
 }
 
-fn last_fields(f: Fields) {
+fn last_fields(rt: &impl Print, f: Fields) -> io::Result<()> {
     let certificate = f.certificate;
     let signature = f.signature;
-    say::one(b"\ntime", f.time as u64);
-    say::text(b"\ncertificate");
-    say::digits(&certificate);
-    say::text(b"\nsignature");
-    say::hex(&signature);
+    say::one(rt, b"\ntime", f.time as u64)?;
+    say::text(rt, b"\ncertificate")?;
+    say::digits(rt, &certificate)?;
+    say::text(rt, b"\nsignature")?;
+    say::hex(rt, &signature)
 }
 
 // Codes and entries, and whether there are only zeros past the last.
-fn lists(codes: &[u8], n: usize, entries: &[u8], k: usize) {
-    say::text(b"\ncodes");
-    say::digits(octets::part(codes, 0, n));
-    say::text(b"\nentries");
-    say::hex(octets::part(entries, 0, k));
+fn lists(rt: &impl Print, codes: &[u8], n: usize, entries: &[u8], k: usize) -> io::Result<()> {
+    say::text(rt, b"\ncodes")?;
+    say::digits(rt, octets::part(codes, 0, n))?;
+    say::text(rt, b"\nentries")?;
+    say::hex(rt, octets::part(entries, 0, k))?;
     if !say::all(octets::part(codes, n, 322), 0) {
-        say::text(b"\na code past the last");
+        say::text(rt, b"\na code past the last")?;
     }
     if !say::all(octets::part(entries, k, 272), 0) {
-        say::text(b"\nan entry past the last");
+        say::text(rt, b"\nan entry past the last")?;
     }
+    Ok(())
 }
 
 // Fields, codes and body written into 250 bytes.
-fn written(f: Fields, codes: &[u8], body: &[u8]) {
+fn written(rt: &impl Print, f: Fields, codes: &[u8], body: &[u8]) -> io::Result<()> {
     let mut out = [0xEEu8; 250];
     let w = writer::write(f, codes, body, &mut out);
-    say::one(b"write", w.answer as u64);
-    say::memory(&out, w.length);
+    say::one(rt, b"write", w.answer as u64)?;
+    say::memory(rt, &out, w.length)
 }
 
-fn text_and_body(packet: &[u8]) {
-    say::one(b"\ntext", reader::text_answer(packet) as u64);
-    say::hex(reader::text(packet));
-    say::text(b"\nbody");
-    say::hex(reader::body(packet));
-    say::text(b"\n");
+fn text_and_body(rt: &impl Print, packet: &[u8]) -> io::Result<()> {
+    say::one(rt, b"\ntext", reader::text_answer(packet) as u64)?;
+    say::hex(rt, reader::text(packet))?;
+    say::text(rt, b"\nbody")?;
+    say::hex(rt, reader::body(packet))?;
+    say::text(rt, b"\n")
 }
 
 // All that was read. Beside a refusal it should be nothing.
-fn shown(o: Opened) {
+fn shown(rt: &impl Print, o: Opened) -> io::Result<()> {
     let f = o.fields;
     let codes = o.codes;
     let entries = o.entries;
     let c = f.content;
-    say::one(b"read", o.answer as u64);
-    say::text(b"\n");
-    first_fields(f);
-    last_fields(f);
-    lists(&codes, codes_length(f.codes), &entries, entries_length(c));
+    say::one(rt, b"read", o.answer as u64)?;
+    say::text(rt, b"\n")?;
+    first_fields(rt, f)?;
+    last_fields(rt, f)?;
+    lists(
+        rt,
+        &codes,
+        codes_length(f.codes),
+        &entries,
+        entries_length(c),
+    )
 }
 
 // What was read, written again.
-fn back(o: Opened, packet: &[u8]) {
+fn back(rt: &impl Print, o: Opened, packet: &[u8]) -> io::Result<()> {
     let f = o.fields;
     let codes = o.codes;
     let entries = o.entries;
@@ -131,19 +139,25 @@ fn back(o: Opened, packet: &[u8]) {
     let n = codes_length(f.codes);
     let k = entries_length(c);
     if k == 0 {
-        written(f, octets::part(&codes, 0, n), reader::body(packet));
+        written(rt, f, octets::part(&codes, 0, n), reader::body(packet))
     } else {
-        written(f, octets::part(&codes, 0, n), octets::part(&entries, 0, k));
+        written(
+            rt,
+            f,
+            octets::part(&codes, 0, n),
+            octets::part(&entries, 0, k),
+        )
     }
 }
 
 // A whole record.
-pub(crate) fn record(b: &[u8]) {
+pub(crate) fn record(rt: &impl Print, b: &[u8]) -> io::Result<()> {
     let packet = octets::part(b, 3, 65536);
     let o = reader::read(packet);
-    shown(o);
-    text_and_body(packet);
+    shown(rt, o)?;
+    text_and_body(rt, packet)?;
     if o.answer == 0 {
-        back(o, packet);
+        back(rt, o, packet)?;
     }
+    Ok(())
 }

@@ -1,28 +1,27 @@
 // Lines of text.
 use crate::input;
-use libc::STDOUT_FILENO;
+use std::io;
 
-pub(crate) fn text(b: &[u8]) {
-    io::write_all(STDOUT_FILENO, b);
+pub(crate) fn text(rt: &impl Print, b: &[u8]) -> io::Result<()> {
+    rt.write_all(b)
 }
 
 // # and the length of a name, in one byte, and the name: a line of it.
-pub(crate) fn name(b: &[u8]) {
-    text(b"# ");
-    text(octets::part(b, 2, 255));
-    text(b"\n");
+pub(crate) fn name(rt: &impl Print, b: &[u8]) -> io::Result<()> {
+    text(rt, b"# ")?;
+    text(rt, octets::part(b, 2, 255))?;
+    text(rt, b"\n")
 }
 
 // A space and a number.
-pub(crate) fn number(n: u64) {
-    text(b" ");
-    io::print_decimal(STDOUT_FILENO, n);
+pub(crate) fn number(rt: &impl Print, n: u64) -> io::Result<()> {
+    print!(rt; " {n}")
 }
 
 // A name and a number behind it.
-pub(crate) fn one(name: &[u8], n: u64) {
-    text(name);
-    number(n);
+pub(crate) fn one(rt: &impl Print, name: &[u8], n: u64) -> io::Result<()> {
+    text(rt, name)?;
+    number(rt, n)
 }
 
 // A character for a number below 16.
@@ -34,7 +33,7 @@ fn glyph(d: u8) -> u8 {
 }
 
 // A space and two characters a byte; a dash where there is none.
-pub(crate) fn hex(b: &[u8]) {
+pub(crate) fn hex(rt: &impl Print, b: &[u8]) -> io::Result<()> {
     let mut line = [0u8; 4600];
     let n = input::least(b.len(), 2300);
     let mut i: usize = 0;
@@ -44,11 +43,11 @@ pub(crate) fn hex(b: &[u8]) {
         line[2 * i + 1] = glyph(x % 16);
         i += 1;
     }
-    spaced(octets::part(&line, 0, 2 * n));
+    spaced(rt, octets::part(&line, 0, 2 * n))
 }
 
 // A space and a character for each digit; a dash where there is none.
-pub(crate) fn digits(b: &[u8]) {
+pub(crate) fn digits(rt: &impl Print, b: &[u8]) -> io::Result<()> {
     let mut line = [0u8; 1000];
     let n = input::least(b.len(), 1000);
     let mut i: usize = 0;
@@ -56,16 +55,15 @@ pub(crate) fn digits(b: &[u8]) {
         line[i] = glyph(b[i]);
         i += 1;
     }
-    spaced(octets::part(&line, 0, n));
+    spaced(rt, octets::part(&line, 0, n))
 }
 
-fn spaced(b: &[u8]) {
+fn spaced(rt: &impl Print, b: &[u8]) -> io::Result<()> {
     if b.len() == 0 {
-        text(b" -");
-        return;
+        return text(rt, b" -");
     }
-    text(b" ");
-    text(b);
+    text(rt, b" ")?;
+    text(rt, b)
 }
 
 // Whether every byte is x.
@@ -81,11 +79,11 @@ pub(crate) fn all(b: &[u8], x: u8) -> bool {
 }
 
 // The bytes that were written at the start of lent memory, which was 0xEE throughout; then whether the rest still is.
-pub(crate) fn memory(lent: &[u8], written: usize) {
-    hex(octets::part(lent, 0, written));
+pub(crate) fn memory(rt: &impl Print, lent: &[u8], written: usize) -> io::Result<()> {
+    hex(rt, octets::part(lent, 0, written))?;
     if all(octets::part(lent, written, 2300), 0xEE) {
-        text(b"\nthe rest as it was\n");
+        text(rt, b"\nthe rest as it was\n")
     } else {
-        text(b"\nthe rest CHANGED\n");
+        text(rt, b"\nthe rest CHANGED\n")
     }
 }

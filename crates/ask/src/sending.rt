@@ -3,6 +3,7 @@
 ghost use Rattle.std.specs.Prelude.{◌≤◌};
 
 use crate::{input, say};
+use std::io;
 
 // The bytes of so many frames, at most all that are lent.
 fn bytes_of(frames: usize) -> usize
@@ -12,28 +13,36 @@ fn bytes_of(frames: usize) -> usize
 }
 
 // Puts a packet on air in the first n bytes of memory, or in all of it.
-fn sent(packet: &[u8], level: u8, version: u8, n: usize, memory: &mut [u8]) {
+fn sent(
+    rt: &impl Print,
+    packet: &[u8],
+    level: u8,
+    version: u8,
+    n: usize,
+    memory: &mut [u8],
+) -> io::Result<()> {
     let e = input::least(n, memory.len());
     let a = air::on_air(packet, level, version, &mut memory[0..e]);
-    say::one(b"air", a.answer as u64);
-    say::number(a.frames as u64);
-    say::memory(memory, bytes_of(a.frames));
+    say::one(rt, b"air", a.answer as u64)?;
+    say::number(rt, a.frames as u64)?;
+    say::memory(rt, memory, bytes_of(a.frames))
 }
 
 // A whole record.
-pub(crate) fn record(b: &[u8]) {
+pub(crate) fn record(rt: &impl Print, b: &[u8]) -> io::Result<()> {
     sent(
+        rt,
         octets::part(b, 7, 65536),
         octets::byte(b, 1),
         octets::byte(b, 2),
         input::two(b, 3) as usize,
         &mut [0xEEu8; 832],
-    );
+    )
 }
 
-pub(crate) fn check(b: &[u8]) {
+pub(crate) fn check(rt: &impl Print, b: &[u8]) -> io::Result<()> {
     let word = crc::packet_check(octets::part(b, 3, 65536));
-    say::text(b"check");
-    say::hex(&[(word / 256) as u8, (word % 256) as u8]);
-    say::text(b"\n");
+    say::text(rt, b"check")?;
+    say::hex(rt, &[(word / 256) as u8, (word % 256) as u8])?;
+    say::text(rt, b"\n")
 }

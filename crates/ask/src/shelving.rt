@@ -6,6 +6,7 @@
 ghost use Rattle.std.specs.Prelude.{◌≡◌, length};
 
 use crate::{input, say};
+use std::io;
 
 // Room for a record more than a shelf may have, and a byte.
 fn space() -> [u8; 1048833]
@@ -35,26 +36,37 @@ fn repeat(b: &[u8], out: &mut [u8])
 }
 
 // Adds to the first n bytes of the space with a summary that is put into the memory.
-fn added(shelf: &[u8], given: &[u8], summary: &[u8], memory: &mut [u8]) {
+fn added(
+    rt: &impl Print,
+    shelf: &[u8],
+    given: &[u8],
+    summary: &[u8],
+    memory: &mut [u8],
+) -> io::Result<()> {
     let e = input::least(summary.len(), memory.len());
     input::fill(summary, &mut memory[0..e]);
-    say::one(b"add", shelf::add(shelf, given, &mut memory[0..e]) as u64);
-    say::memory(memory, e);
+    say::one(
+        rt,
+        b"add",
+        shelf::add(shelf, given, &mut memory[0..e]) as u64,
+    )?;
+    say::memory(rt, memory, e)
 }
 
 // A whole record.
-pub(crate) fn add(b: &[u8]) {
+pub(crate) fn add(rt: &impl Print, b: &[u8]) -> io::Result<()> {
     let n = input::two(b, 5) as usize;
     let m = input::two(b, 7) as usize;
     let mut space = space();
     let e = input::least(input::four(b, 1) as usize, 1048833);
     repeat(octets::part(b, 11, n), &mut space);
     added(
+        rt,
         octets::part(&space, 0, e),
         octets::part(b, 11 + n, m),
         octets::part(b, 11 + n + m, 65536),
         &mut [0xEEu8; 300],
-    );
+    )
 }
 
 // How much is written: all that is due, or nothing.
@@ -62,55 +74,65 @@ fn written(answer: u8, due: usize) -> usize {
     if answer == 0 { due } else { 0 }
 }
 
-fn summarized(shelf: &[u8], n: usize, memory: &mut [u8]) {
+fn summarized(rt: &impl Print, shelf: &[u8], n: usize, memory: &mut [u8]) -> io::Result<()> {
     let e = input::least(n, memory.len());
     let answer = shelf::summarize(shelf, &mut memory[0..e]);
-    say::one(b"summarize", answer as u64);
-    say::memory(memory, written(answer, 256));
+    say::one(rt, b"summarize", answer as u64)?;
+    say::memory(rt, memory, written(answer, 256))
 }
 
 // A whole record.
-pub(crate) fn summarize(b: &[u8]) {
+pub(crate) fn summarize(rt: &impl Print, b: &[u8]) -> io::Result<()> {
     let mut space = space();
     let e = input::least(input::four(b, 1) as usize, 1048833);
     repeat(octets::part(b, 9, 65536), &mut space);
     summarized(
+        rt,
         octets::part(&space, 0, e),
         input::two(b, 5) as usize,
         &mut [0xEEu8; 300],
-    );
+    )
 }
 
-fn made(level: u8, version: u8, packet: &[u8], n: usize, memory: &mut [u8]) {
+fn made(
+    rt: &impl Print,
+    level: u8,
+    version: u8,
+    packet: &[u8],
+    n: usize,
+    memory: &mut [u8],
+) -> io::Result<()> {
     let e = input::least(n, memory.len());
     let answer = shelf::make(level, version, packet, &mut memory[0..e]);
-    say::one(b"make", answer as u64);
-    say::memory(memory, written(answer, 256));
+    say::one(rt, b"make", answer as u64)?;
+    say::memory(rt, memory, written(answer, 256))
 }
 
 // A whole record.
-pub(crate) fn make(b: &[u8]) {
+pub(crate) fn make(rt: &impl Print, b: &[u8]) -> io::Result<()> {
     made(
+        rt,
         octets::byte(b, 1),
         octets::byte(b, 2),
         octets::part(b, 7, 65536),
         input::two(b, 3) as usize,
         &mut [0xEEu8; 300],
-    );
+    )
 }
 
-fn lined(given: &[u8], n: usize, memory: &mut [u8]) {
+fn lined(rt: &impl Print, given: &[u8], n: usize, memory: &mut [u8]) -> io::Result<()> {
     let e = input::least(n, memory.len());
     let w = shelf::line(given, &mut memory[0..e]);
-    say::one(b"line", w.answer as u64);
-    say::memory(memory, w.length);
+    say::one(rt, b"line", w.answer as u64)?;
+    say::memory(rt, memory, w.length)
 }
 
 // A whole record.
-pub(crate) fn line(b: &[u8]) {
+pub(crate) fn line(rt: &impl Print, b: &[u8]) -> io::Result<()> {
     lined(
+        rt,
         octets::part(b, 5, 65536),
         input::two(b, 1) as usize,
         &mut [0xEEu8; 600],
-    );
+    )
 }

@@ -3,6 +3,7 @@
 // the codes; 123 that of the text; 125 the codes, and behind them the text. J, the length of the memory lent (two bytes, at most 1400), the
 // length of the packets (two bytes), the packets: what joining makes of them.
 use crate::{input, say};
+use std::io;
 use story::Story;
 
 fn story(b: &[u8]) -> Story {
@@ -23,38 +24,47 @@ fn story(b: &[u8]) -> Story {
 }
 
 // Tells into the first n bytes of memory, or into all of it.
-fn told(s: Story, codes: &[u8], text: &[u8], n: usize, memory: &mut [u8]) {
+fn told(
+    rt: &impl Print,
+    s: Story,
+    codes: &[u8],
+    text: &[u8],
+    n: usize,
+    memory: &mut [u8],
+) -> io::Result<()> {
     let e = input::least(n, memory.len());
     let t = tell::tell(s, codes, text, &mut memory[0..e]);
-    say::one(b"tell", t.answer as u64);
-    say::number(t.parts as u64);
-    say::memory(memory, t.length);
+    say::one(rt, b"tell", t.answer as u64)?;
+    say::number(rt, t.parts as u64)?;
+    say::memory(rt, memory, t.length)
 }
 
 // A whole record.
-pub(crate) fn tell(b: &[u8]) {
+pub(crate) fn tell(rt: &impl Print, b: &[u8]) -> io::Result<()> {
     let n = input::two(b, 121) as usize;
     told(
+        rt,
         story(b),
         octets::part(b, 125, n),
         octets::part(b, 125 + n, 65536),
         input::two(b, 119) as usize,
         &mut [0xEEu8; 2300],
-    );
+    )
 }
 
-fn joined(packets: &[u8], n: usize, memory: &mut [u8]) {
+fn joined(rt: &impl Print, packets: &[u8], n: usize, memory: &mut [u8]) -> io::Result<()> {
     let e = input::least(n, memory.len());
     let j = join::join(packets, &mut memory[0..e]);
-    say::one(b"join", j.answer as u64);
-    say::memory(memory, j.length);
+    say::one(rt, b"join", j.answer as u64)?;
+    say::memory(rt, memory, j.length)
 }
 
 // A whole record.
-pub(crate) fn join(b: &[u8]) {
+pub(crate) fn join(rt: &impl Print, b: &[u8]) -> io::Result<()> {
     joined(
+        rt,
         octets::part(b, 5, 65536),
         input::two(b, 1) as usize,
         &mut [0xEEu8; 1400],
-    );
+    )
 }

@@ -4,6 +4,7 @@
 // 127 the length of the memory lent, at most 300; 129 the length of the codes; 131 that of the body; 133 the codes, and behind them the body.
 use crate::{input, say};
 use packet::{Content, Fields};
+use std::io;
 
 // The content that a record names. A content uses of its numbers as many as it has.
 pub(crate) fn content(b: &[u8]) -> Content {
@@ -62,21 +63,29 @@ fn fields(b: &[u8]) -> Fields {
 }
 
 // Writes into the first n bytes of memory, or into all of it.
-fn written(f: Fields, codes: &[u8], body: &[u8], n: usize, memory: &mut [u8]) {
+fn written(
+    rt: &impl Print,
+    f: Fields,
+    codes: &[u8],
+    body: &[u8],
+    n: usize,
+    memory: &mut [u8],
+) -> io::Result<()> {
     let e = input::least(n, memory.len());
     let w = writer::write(f, codes, body, &mut memory[0..e]);
-    say::one(b"write", w.answer as u64);
-    say::memory(memory, w.length);
+    say::one(rt, b"write", w.answer as u64)?;
+    say::memory(rt, memory, w.length)
 }
 
 // A whole record.
-pub(crate) fn record(b: &[u8]) {
+pub(crate) fn record(rt: &impl Print, b: &[u8]) -> io::Result<()> {
     let n = input::two(b, 129) as usize;
     written(
+        rt,
         fields(b),
         octets::part(b, 133, n),
         octets::part(b, 133 + n, 65536),
         input::two(b, 127) as usize,
         &mut [0xEEu8; 300],
-    );
+    )
 }

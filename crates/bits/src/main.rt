@@ -7,8 +7,9 @@ ghost use Rattle.laws.specs.Bits.{bits};
 ghost use Rattle.samples.specs.Coding.{bit_of};
 ghost use Rattle.bits.specs.Packed.{numbers_from, symbols_in, decided_bits, taken_from};
 
-use libc::{STDERR_FILENO, STDIN_FILENO, STDOUT_FILENO};
 use samples::{Pair, Verdict};
+use std::io;
+use std::io::Read;
 
 // The state so far, how many symbols were taken, the answer that ended the run, whether the input ended inside a symbol, and whether it has ended.
 #[derive(Clone, Copy)]
@@ -85,28 +86,28 @@ fn take(state: Pair, bytes: &[u8], out: &mut [u8]) -> Taken
 }
 
 // Reads 64 symbols, decides them and writes their eight bytes. What is short or refused is the run's end.
-fn step(r: Packing) -> Packing {
+fn step(rt: &impl Print, input: &mut impl Read, r: Packing) -> io::Result<Packing> {
     let mut piece = [0u8; 16384];
-    let n = io::read_full(STDIN_FILENO, &mut piece);
+    let n = intake::fill(input, &mut piece)?;
     let mut out = [0u8; 8];
     let p = r.state;
     let t = take(p, &piece[0..n], &mut out);
     let bytes = t.symbols / 8 + (t.symbols % 8 + 7) / 8;
     if bytes <= 8 {
-        io::write_all(STDOUT_FILENO, &out[0..bytes]);
+        rt.write_all(&out[0..bytes])?;
     }
     let next = t.state;
-    Packing {
+    Ok(Packing {
         state: next,
-        symbols: std::num::wrapping_add_u64(r.symbols, t.symbols as u64),
+        symbols: r.symbols.wrapping_add(t.symbols as u64),
         answer: t.answer,
         cut: n % 256 != 0,
         ended: n < 16384,
-    }
+    })
 }
 
-// A proved loop ends, and nothing says that the input does: so the turns are counted down from a number that no run uses up.
-fn run() -> Packing {
+// A proved loop ends, and nothing says that the input does: so the turns are counted up to a number that no run reaches.
+fn run(rt: &impl Print, input: &mut impl Read) -> io::Result<Packing> {
     let p = samples::fresh();
     let mut r = Packing {
         state: p,
@@ -115,34 +116,29 @@ fn run() -> Packing {
         cut: false,
         ended: false,
     };
-    let mut turns = u64::MAX;
-    while turns > 0 {
-        r = step(r);
+    for _ in 0..u64::MAX {
+        r = step(rt, input, r)?;
         if r.answer != 0 {
-            return r;
+            return Ok(r);
         }
         if r.ended {
-            return r;
+            return Ok(r);
         }
-        turns -= 1;
     }
-    r
+    Ok(r)
 }
 
 // Where the run ended early, a line on standard error says at which symbol, counted from 0, and why.
-fn main() {
-    let r = run();
-    if r.answer != 0 {
-        io::write_all(STDERR_FILENO, b"bits: refused with ");
-        io::print_decimal(STDERR_FILENO, r.answer as u64);
-        io::write_all(STDERR_FILENO, b" at symbol ");
-        io::print_decimal(STDERR_FILENO, r.symbols);
-        io::write_all(STDERR_FILENO, b"\n");
-        return;
+fn main(rt: HostRuntime) -> io::Result<()> {
+    let r = run(&rt, &mut rt.reader())?;
+    let answer = r.answer;
+    let symbols = r.symbols;
+    if answer != 0 {
+        eprintln!(rt; "bits: refused with {answer} at symbol {symbols}")?;
+        return Ok(());
     }
     if r.cut {
-        io::write_all(STDERR_FILENO, b"bits: the input ends inside symbol ");
-        io::print_decimal(STDERR_FILENO, r.symbols);
-        io::write_all(STDERR_FILENO, b"\n");
+        eprintln!(rt; "bits: the input ends inside symbol {symbols}")?;
     }
+    Ok(())
 }

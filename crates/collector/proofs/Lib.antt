@@ -1,5 +1,5 @@
 pub mod Marks
-pub mod Number
+pub mod NumberMarks
 pub mod Fair
 pub mod Joined
 pub mod OnePlace

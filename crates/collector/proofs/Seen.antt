@@ -28,7 +28,7 @@ use Rattle.collector.specs.Collector.{good, place_of, index_of_pair, put, piece_
 use Rattle.collector.specs.Layout.{marks_from, number_of, top_clear, tops_clear, as_place, as_collector, as_offered, from_place, from_collector, from_offered, no_holdings, bad_record, sound, offer_due, release_due, copy_due, offer_gives, release_gives, copy_gives, copy_leaves}
 use Rattle.collector.proofs.AllPlaces.{is_not_held}
 use Rattle.collector.proofs.Calls.{offer_28, release_28, copy_28, bad_first}
-use Rattle.collector.proofs.Number.{length_marks, number_of_marks, marks_of_number, number_small}
+use Rattle.collector.proofs.NumberMarks.{length_marks, number_of_marks, marks_of_number, number_small}
 
 -- ---- seen, and back
 -- a place whose top bit is clear comes back

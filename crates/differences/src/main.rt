@@ -4,7 +4,8 @@
 
 ghost use Rattle.std.specs.Prelude.{◌≡◌, length};
 
-use libc::STDOUT_FILENO;
+use std::io;
+use std::rt::Files;
 
 // Room for 4,096 records.
 fn space() -> [u8; 1048576]
@@ -21,33 +22,23 @@ fn report() -> [u8; 262144]
 }
 
 // Reads a file, and answers how many bytes it has: one, which is no shelf and so refused with 34 in its turn, where it is longer or can't be read to its end.
-fn read(name: &[u8], space: &mut [u8]) -> usize {
-    let fd = os::open_read(name);
-    if fd < 0 {
-        return 1;
-    }
-    let n = io::read_full(fd, space);
-    let mut more = [0u8; 1];
-    if libc::read(fd, &mut more) != 0 {
-        return 1;
-    }
-    n
+fn read(rt: &impl Files, name: &str, space: &mut [u8]) -> usize {
+    intake::whole_file(rt, name, space).unwrap_or(1)
 }
 
-fn say(answer: u8, right: bool) {
-    io::print_decimal(STDOUT_FILENO, answer as u64);
+fn say(rt: &impl Print, answer: u8, right: bool) -> io::Result<()> {
     if right {
-        io::write_all(STDOUT_FILENO, b" right\n");
+        println!(rt; "{answer} right")
     } else {
-        io::write_all(STDOUT_FILENO, b" left\n");
+        println!(rt; "{answer} left")
     }
 }
 
-fn main() {
+fn main(rt: HostRuntime) -> io::Result<()> {
     let mut left = space();
     let mut right = space();
-    let n = read(b"left", &mut left);
-    let m = read(b"right", &mut right);
+    let n = read(&rt, "left", &mut left);
+    let m = read(&rt, "right", &mut right);
     let mut text = report();
     let compared = compare::list(
         octets::part(&left, 0, n),
@@ -55,8 +46,7 @@ fn main() {
         &mut text,
     );
     if compared.answer != 0 {
-        say(compared.answer, compared.right);
-        return;
+        return say(&rt, compared.answer, compared.right);
     }
-    io::write_all(STDOUT_FILENO, octets::part(&text, 0, compared.length));
+    rt.write_all(octets::part(&text, 0, compared.length))
 }

@@ -108,7 +108,8 @@ fn put_text(out: &mut [u8], p: usize, text: &[u8])
     requires { p + length text.now ≤ length out.old }
     ensures { out.new ≡ sets out.old p text.now }
 {
-    bytes::copy(text, &mut out[p..]);
+    let end = p + text.len();
+    out[p..end].copy_from_slice(text);
 }
 
 // The texts of all parts, one behind the other.

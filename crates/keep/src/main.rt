@@ -6,8 +6,9 @@
 ghost use Rattle.std.specs.Prelude.{◌≡◌, length};
 
 use collector::Holdings;
-use libc::{STDIN_FILENO, STDOUT_FILENO};
 use receiver::Receiver;
+use std::io;
+use std::io::Read;
 
 // The collector so far, the place of it that gives way next, and how many bytes the shelf has.
 #[derive(Clone, Copy)]
@@ -52,39 +53,51 @@ fn put_behind(shelf: &mut [u8], length: usize, given: &[u8]) -> usize {
     let mut i: usize = 0;
     while i < given.len() {
         put(shelf, at, given[i]);
-        at = std::num::wrapping_add_usize(at, 1);
+        at = at.wrapping_add(1);
         i += 1;
     }
     at
 }
 
 // Adds a record and says so; the shelf's length then.
-fn keep(shelf: &mut [u8], length: usize, summary: &mut [u8], given: &[u8]) -> usize {
+fn keep(
+    rt: &impl Print,
+    shelf: &mut [u8],
+    length: usize,
+    summary: &mut [u8],
+    given: &[u8],
+) -> io::Result<usize> {
     let answer = shelf::add(octets::part(shelf, 0, length), given, summary);
-    io::write_all(STDOUT_FILENO, &[answer]);
+    rt.write_all(&[answer])?;
     if answer != 0 {
-        return length;
+        return Ok(length);
     }
-    io::write_all(STDOUT_FILENO, given);
-    io::write_all(STDOUT_FILENO, summary);
-    put_behind(shelf, length, given)
+    rt.write_all(given)?;
+    rt.write_all(summary)?;
+    Ok(put_behind(shelf, length, given))
 }
 
 // The packet of the frame's pair is whole: it is kept, and the pair released.
-fn take_whole(k: Keeping, frame: &[u8], shelf: &mut [u8], summary: &mut [u8]) -> Keeping {
+fn take_whole(
+    rt: &impl Print,
+    k: Keeping,
+    frame: &[u8],
+    shelf: &mut [u8],
+    summary: &mut [u8],
+) -> io::Result<Keeping> {
     let h = frame::heading_of(frame).heading;
     let c = k.collector;
     let mut packet = [0u8; 250];
     let n = collector::copy(c, h.level, h.version, &mut packet).length;
     let mut record = [0u8; 256];
     shelf::make(h.level, h.version, octets::part(&packet, 0, n), &mut record);
-    let length = keep(shelf, k.length, summary, &record);
+    let length = keep(rt, shelf, k.length, summary, &record)?;
     let d = collector::release(c, h.level, h.version).collector;
-    Keeping {
+    Ok(Keeping {
         collector: d,
         turn: k.turn,
         length: length,
-    }
+    })
 }
 
 // The collector with one place free.
@@ -94,7 +107,13 @@ fn with_room(c: Holdings, turn: usize) -> Holdings {
 }
 
 // Packets that lost a frame for good would hold every place; so where none is free (16) the places give way in turn, and the frame is offered again.
-fn hear(k: Keeping, frame: &[u8], shelf: &mut [u8], summary: &mut [u8]) -> Keeping {
+fn hear(
+    rt: &impl Print,
+    k: Keeping,
+    frame: &[u8],
+    shelf: &mut [u8],
+    summary: &mut [u8],
+) -> io::Result<Keeping> {
     let c = k.collector;
     let mut turn = k.turn;
     let mut offered = collector::offer(c, frame);
@@ -110,65 +129,87 @@ fn hear(k: Keeping, frame: &[u8], shelf: &mut [u8], summary: &mut [u8]) -> Keepi
         length: k.length,
     };
     if offered.answer == 1 {
-        return take_whole(next, frame, shelf, summary);
+        return take_whole(rt, next, frame, shelf, summary);
     }
-    next
+    Ok(next)
 }
 
 // The first n frames of the receiver's output, in order.
-fn hear_all(k: Keeping, out: &[u8], n: usize, shelf: &mut [u8], summary: &mut [u8]) -> Keeping {
+fn hear_all(
+    rt: &impl Print,
+    k: Keeping,
+    out: &[u8],
+    n: usize,
+    shelf: &mut [u8],
+    summary: &mut [u8],
+) -> io::Result<Keeping> {
     let mut now = k;
     let mut i: usize = 0;
     let mut at: usize = 0;
     while i < n {
-        now = hear(now, octets::part(out, at, 8), shelf, summary);
-        at = std::num::wrapping_add_usize(at, 8);
+        now = hear(rt, now, octets::part(out, at, 8), shelf, summary)?;
+        at = at.wrapping_add(8);
         i += 1;
     }
-    now
+    Ok(now)
 }
 
 // Air bytes, as many as are there; none is the input's end.
-fn take_air(h: Hearing, shelf: &mut [u8], summary: &mut [u8]) -> Hearing {
+fn take_air(
+    rt: &impl Print,
+    input: &mut impl Read,
+    h: Hearing,
+    shelf: &mut [u8],
+    summary: &mut [u8],
+) -> io::Result<Hearing> {
     let mut delivery = [0u8; 512];
-    let got = libc::read(STDIN_FILENO, &mut delivery);
-    let n = io::count(got, &delivery);
+    let n = input.read(&mut delivery)?;
     let mut frames = [0u8; 320];
     let mut counts = [0u8; 40];
     let r = h.receiver;
     let received = receiver::receive(r, octets::part(&delivery, 0, n), &mut frames, &mut counts);
     let k = h.keeping;
-    let keeping = hear_all(k, &frames, received.frames, shelf, summary);
+    let keeping = hear_all(rt, k, &frames, received.frames, shelf, summary)?;
     let receiver = received.receiver;
-    Hearing {
+    Ok(Hearing {
         receiver: receiver,
         keeping: keeping,
         ended: n == 0,
-    }
+    })
 }
 
-// A proved loop ends, and nothing says that the input does: so the turns are counted down from a number that no run uses up.
-fn run(length: usize, shelf: &mut [u8], summary: &mut [u8]) {
+// A proved loop ends, and nothing says that the input does: so the turns are counted up to a number that no run reaches.
+fn run(
+    rt: &impl Print,
+    input: &mut impl Read,
+    length: usize,
+    shelf: &mut [u8],
+    summary: &mut [u8],
+) -> io::Result<()> {
     let mut h = begin(length);
-    let mut turns = u64::MAX;
-    while turns > 0 {
-        h = take_air(h, shelf, summary);
+    for _ in 0..u64::MAX {
+        h = take_air(rt, input, h, shelf, summary)?;
         if h.ended {
-            return;
+            return Ok(());
         }
-        turns -= 1;
     }
+    Ok(())
 }
 
-fn start(length: usize, shelf: &mut [u8]) {
+fn start(
+    rt: &impl Print,
+    input: &mut impl Read,
+    length: usize,
+    shelf: &mut [u8],
+) -> io::Result<()> {
     let mut summary = [0u8; 256];
     let answer = shelf::summarize(octets::part(shelf, 0, length), &mut summary);
-    io::write_all(STDOUT_FILENO, &[answer]);
+    rt.write_all(&[answer])?;
     if answer != 0 {
-        return;
+        return Ok(());
     }
-    io::write_all(STDOUT_FILENO, &summary);
-    run(length, shelf, &mut summary);
+    rt.write_all(&summary)?;
+    run(rt, input, length, shelf, &mut summary)
 }
 
 // Room for 4,096 records.
@@ -179,14 +220,10 @@ fn space() -> [u8; 1048576]
 }
 
 // What was read is a shelf only where the file ends behind it: a longer one, and one that can't be read to its end, is refused with 34.
-fn main() {
-    let fd = os::open_read(&[b's', b'h', b'e', b'l', b'f']);
+fn main(rt: HostRuntime) -> io::Result<()> {
     let mut space = space();
-    let n = io::read_full(fd, &mut space);
-    let mut more = [0u8; 1];
-    if libc::read(fd, &mut more) != 0 {
-        io::write_all(STDOUT_FILENO, &[34]);
-        return;
+    match intake::whole_file(&rt, "shelf", &mut space) {
+        Some(n) => start(&rt, &mut rt.reader(), n, &mut space),
+        None => rt.write_all(&[34]),
     }
-    start(n, &mut space);
 }

@@ -21,3 +21,12 @@ module _ {A : Type 0} where
       (append-nil part ∙ e ∙ ap (λ (r : List A). sets r 0 v) (part_is l n) ∙ from_front v (drop n l) (omega arith) ∙ ap (λ (r : List A). v ++ r) (drop-drop (length v) n l))
       ∙ sym (append_assoc (take n l) v (drop (n + length v) l))
       ∙ sym (sets-eq v l n h)
+
+  -- a part as long as what is written to it
+  pub in_place : (l v part : List A) (n k : ℕ) → k ≡ length v → n + length v ≤ length l → part ≡ v → put_mid n k l part ≡ sets l n v
+  in_place l v part n k long h e =
+      ap (λ (r : List A). take n l ++ (r ++ drop k (drop n l))) e
+      ∙ ap (λ (m : ℕ). take n l ++ (v ++ drop m (drop n l))) long
+      ∙ ap (λ (r : List A). take n l ++ (v ++ r)) (drop-drop (length v) n l)
+      ∙ sym (append_assoc (take n l) v (drop (n + length v) l))
+      ∙ sym (sets-eq v l n h)

@@ -2,8 +2,9 @@
 #![tactic(auto)]
 
 use collector::Holdings;
-use libc::{STDIN_FILENO, STDOUT_FILENO};
 use receiver::Receiver;
+use std::io;
+use std::io::Read;
 
 // The receiver and the collector so far, how many frames came, and whether the input has ended.
 #[derive(Clone, Copy)]
@@ -26,77 +27,73 @@ fn begin() -> Listing {
 }
 
 // Offers a frame and prints its line: sixteen digits, a space, an answer of at most three, the line's end.
-fn show(c: Holdings, frame: &[u8]) -> Holdings {
+fn show(rt: &impl Print, c: Holdings, frame: &[u8]) -> io::Result<Holdings> {
     let offered = collector::offer(c, frame);
     let mut line = [0u8; 21];
     let n = print::frame_line(frame, offered.answer, &mut line);
     if n <= 21 {
-        io::write_all(STDOUT_FILENO, &line[0..n]);
+        rt.write_all(&line[0..n])?;
     }
-    offered.collector
+    Ok(offered.collector)
 }
 
 // The first n frames of the receiver's output, in order.
-fn show_all(c: Holdings, out: &[u8], n: usize) -> Holdings {
+fn show_all(rt: &impl Print, c: Holdings, out: &[u8], n: usize) -> io::Result<Holdings> {
     let mut held = c;
     let mut k: usize = 0;
     while k < out.len() / 8 {
         if n <= k {
-            return held;
+            return Ok(held);
         }
         let at = k * 8;
-        held = show(held, &out[at..at + 8]);
+        held = show(rt, held, &out[at..at + 8])?;
         k += 1;
     }
-    held
+    Ok(held)
 }
 
 // Takes one delivery. No run counts to the end of 64 bits.
-fn take(l: Listing, delivery: &[u8]) -> Listing {
+fn take(rt: &impl Print, l: Listing, delivery: &[u8]) -> io::Result<Listing> {
     let mut out = [0u8; 320];
     let mut counts = [0u8; 40];
     let r = l.receiver;
     let got = receiver::receive(r, delivery, &mut out, &mut counts);
     let c = l.collector;
-    let held = show_all(c, &out, got.frames);
+    let held = show_all(rt, c, &out, got.frames)?;
     let next = got.receiver;
-    Listing {
+    Ok(Listing {
         receiver: next,
         collector: held,
-        frames: std::num::wrapping_add_u64(l.frames, got.frames as u64),
+        frames: l.frames.wrapping_add(got.frames as u64),
         ended: false,
-    }
+    })
 }
 
 // Reads a delivery and takes it; an empty one is the input's end.
-fn step(l: Listing) -> Listing {
+fn step(rt: &impl Print, input: &mut impl Read, l: Listing) -> io::Result<Listing> {
     let mut delivery = [0u8; 512];
-    let n = io::read_full(STDIN_FILENO, &mut delivery);
+    let n = intake::fill(input, &mut delivery)?;
     if n == 0 {
         let mut last = l;
         last.ended = true;
-        return last;
+        return Ok(last);
     }
-    take(l, &delivery[0..n])
+    take(rt, l, &delivery[0..n])
 }
 
-// A proved loop ends, and nothing says that the input does: so the turns are counted down from a number that no run uses up.
-fn run() -> u64 {
+// A proved loop ends, and nothing says that the input does: so the turns are counted up to a number that no run reaches.
+fn run(rt: &impl Print, input: &mut impl Read) -> io::Result<u64> {
     let mut l = begin();
-    let mut turns = u64::MAX;
-    while turns > 0 {
-        l = step(l);
+    for _ in 0..u64::MAX {
+        l = step(rt, input, l)?;
         if l.ended {
-            return l.frames;
+            return Ok(l.frames);
         }
-        turns -= 1;
     }
-    l.frames
+    Ok(l.frames)
 }
 
-fn main() {
-    let frames = run();
-    io::write_all(STDOUT_FILENO, b"frames ");
-    io::print_decimal(STDOUT_FILENO, frames);
-    io::write_all(STDOUT_FILENO, b"\n");
+fn main(rt: HostRuntime) -> io::Result<()> {
+    let frames = run(&rt, &mut rt.reader())?;
+    println!(rt; "frames {frames}")
 }

@@ -15,7 +15,7 @@ use Rattle.block.proofs.Validity.{check_word_small, made_valid}
 use Rattle.frame.specs.OnAir.{block_bits, frame_bits, air_bytes, stream_of}
 use Rattle.frame.specs.Examples.{zeros_on_air}
 use Rattle.frame.proofs.OnAir.{block_number, length_block, length_frame, word_at, block, stream_bits}
-use Rattle.frame.proofs.OnAir as on-air
+use Rattle.frame.proofs.OnAir as on_air
 use Rattle.receiver.specs.Rule.{Heard, is_frame, information, is_taken, taken_bytes, taken_count, onto, heard}
 use Rattle.receiver.specs.Receive.{quiet_receiver, fresh_receiver, end_of, hearing}
 use Rattle.receiver.specs.Calls.{Call, some, IsFrame, AreFrames, all_taken, all_frames, all_counts, last_receiver, delivered, in_bounds}

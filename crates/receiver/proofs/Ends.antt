@@ -14,7 +14,7 @@ use Rattle.laws.proofs.Bits.{Under, length_bits_of, length_run, length_spread, u
 use Rattle.laws.proofs.ByteFields.{at_parts}
 use Rattle.laws.proofs.Words.{bits_join}
 use Rattle.laws.proofs.Writes.{join, from_front}
-use Rattle.laws.proofs.Parts.{in_part}
+use Rattle.laws.proofs.Parts.{in_place}
 use Rattle.receiver.specs.declared.Receiver.{Receiver}
 use Rattle.receiver.specs.Receive.{record_of}
 use Rattle.receiver.specs.Rule.{one}
@@ -43,19 +43,15 @@ sets_past l v (x ∷ w) i j h =
 
 pub filled : (z a o part r d : List ℕ) (hi lo : ℕ) → lo < 2 ^ 64 → length z ≡ 536 → length d ≤ 512
     → a ≡ sets z 0 (bytes (bits_of 64 hi))
-    → part ≡ take (length d) d ++ drop (length d) (take (length a - 16) (drop 16 a))
-    → o ≡ put_mid 16 (length a - 16) a part
+    → part ≡ d
+    → o ≡ put_mid 16 (16 + length d - 16) a part
     → r ≡ sets o 8 (bytes (bits_of 64 lo))
     → take (128 + length d * 8) (bits r) ≡ bits_of 128 (hi * 2 ^ 64 + lo) ++ bits d
 filled z a o part r d hi lo small n k ea ep eo er =
     let la : length a ≡ 536 = ap length ea ∙ length-sets z 0 (bytes (bits_of 64 hi)) ∙ n in
-    let room = take (length a - 16) (drop 16 a) in
-    let lr : length room ≡ 520 = length-take-le (length a - 16) (drop 16 a) (omega (arith, length-drop 16 a)) ∙ omega arith in
-    let p : part ≡ sets room 0 d =
-    ep ∙ ap (λ (m : List ℕ). m ++ drop (length d) room) (take_all (length d) d (omega arith)) ∙ sym (from_front d room (omega arith)) in
     let c = sets a 8 (bytes (bits_of 64 lo)) in
     let o2 : r ≡ sets c 16 d =
-    er ∙ ap (λ (m : List ℕ). sets m 8 (bytes (bits_of 64 lo))) (eo ∙ in_part a d part 16 (omega arith) p)
+    er ∙ ap (λ (m : List ℕ). sets m 8 (bytes (bits_of 64 lo))) (eo ∙ in_place a d part 16 (16 + length d - 16) (omega arith) (omega arith) ep)
     ∙ sets_past a d (bytes (bits_of 64 lo)) 8 16 (omega (arith, eight lo)) in
     let c2 : c ≡ sets z 0 (bytes (bits_of 64 hi) ++ bytes (bits_of 64 lo)) = join z a c (bytes (bits_of 64 hi)) (bytes (bits_of 64 lo)) 0 8 ea refl (omega (arith, eight hi)) in
     let two : length (bytes (bits_of 64 hi) ++ bytes (bits_of 64 lo)) ≡ 16 = length-append (bytes (bits_of 64 hi)) (bytes (bits_of 64 lo)) ∙ omega (arith, eight hi, eight lo) in

@@ -69,7 +69,8 @@ fn fill(buffer: &mut [u8], receiver: Receiver, delivery: &[u8])
 {
     store::store(buffer, 0, receiver.high);
     // between the two, so that each is one store of eight bytes: the compiler joins no sixteen
-    bytes::copy(delivery, &mut buffer[16..]);
+    let end = 16 + delivery.len();
+    buffer[16..end].copy_from_slice(delivery);
     store::store(buffer, 8, receiver.low);
 }
 

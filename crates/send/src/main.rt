@@ -6,7 +6,7 @@
 
 ghost use Rattle.std.specs.Prelude.{◌≤◌};
 
-use libc::{STDIN_FILENO, STDOUT_FILENO};
+use std::io;
 use story::Story;
 
 fn codes_length(b: &[u8]) -> usize
@@ -38,41 +38,37 @@ fn bytes_of(frames: usize) -> usize {
 }
 
 // Puts a packet on air and writes its bytes; none where it is refused. The answer.
-fn put(packet: &[u8], level: u8, version: u8) -> u8 {
+fn put(rt: &impl Print, packet: &[u8], level: u8, version: u8) -> io::Result<u8> {
     let mut out = [0u8; 819];
     let aired = air::on_air(packet, level, version, &mut out);
-    io::write_all(STDOUT_FILENO, octets::part(&out, 0, bytes_of(aired.frames)));
-    aired.answer
+    rt.write_all(octets::part(&out, 0, bytes_of(aired.frames)))?;
+    Ok(aired.answer)
 }
 
-fn say(answer: u8, parts: usize, last: usize) {
-    io::write_all(
-        STDOUT_FILENO,
-        &[answer, (parts % 256) as u8, (last % 256) as u8],
-    );
+fn say(rt: &impl Print, answer: u8, parts: usize, last: usize) -> io::Result<()> {
+    rt.write_all(&[answer, (parts % 256) as u8, (last % 256) as u8])
 }
 
 // Puts packets on air that stand back to back. A refusal comes with the first of them, since it is the level's or the version's.
-fn put_all(packets: &[u8], parts: usize, level: u8, first: u8) {
+fn put_all(rt: &impl Print, packets: &[u8], parts: usize, level: u8, first: u8) -> io::Result<()> {
     let mut version = first;
     let mut at: usize = 0;
     let mut last: usize = 0;
     let mut k: usize = 0;
     while k < parts {
         last = size::packet_size(octets::part(packets, at, 2));
-        let answer = put(octets::part(packets, at, last), level, version);
+        let answer = put(rt, octets::part(packets, at, last), level, version)?;
         if answer != 0 {
-            say(answer, 0, 0);
-            return;
+            return say(rt, answer, 0, 0);
         }
         version = (version % 32 + 1) % 32;
-        at = std::num::wrapping_add_usize(at, last);
+        at = at.wrapping_add(last);
         k += 1;
     }
-    say(0, parts, last);
+    say(rt, 0, parts, last)
 }
 
-fn send(b: &[u8]) {
+fn send(rt: &impl Print, b: &[u8]) -> io::Result<()> {
     let mut packets = [0u8; 2250];
     let n = codes_length(b);
     let told = tell::tell(
@@ -82,20 +78,20 @@ fn send(b: &[u8]) {
         &mut packets,
     );
     if told.answer != 0 {
-        say(told.answer, 0, 0);
-        return;
+        return say(rt, told.answer, 0, 0);
     }
     put_all(
+        rt,
         octets::part(&packets, 0, told.length),
         told.parts,
         octets::byte(b, 0),
         octets::byte(b, 1),
-    );
+    )
 }
 
 // No text that can be told is longer than what is read at once.
-fn main() {
-    let mut record = io::large_buffer();
-    let n = io::read_full(STDIN_FILENO, &mut record);
-    send(octets::part(&record, 0, n));
+fn main(rt: HostRuntime) -> io::Result<()> {
+    let mut record = [0u8; 65536];
+    let n = intake::fill(&mut rt.reader(), &mut record)?;
+    send(&rt, octets::part(&record, 0, n))
 }

@@ -4,8 +4,9 @@
 #![tactic(auto)]
 
 use board::Board;
-use libc::{STDIN_FILENO, STDOUT_FILENO};
 use receiver::Receiver;
+use std::io;
+use std::io::Read;
 
 // The receiver and the board so far, and whether the input has ended.
 #[derive(Clone, Copy)]
@@ -26,96 +27,100 @@ fn begin() -> Hearing {
 }
 
 // The text that is shown, at most 1341 bytes, and what is said of it.
-fn show(level: u8, parts: u8, number: &[u8], text: &[u8]) {
+fn show(rt: &impl Print, level: u8, parts: u8, number: &[u8], text: &[u8]) -> io::Result<()> {
     let n = text.len() % 65536;
-    io::write_all(STDOUT_FILENO, &[level, parts]);
-    io::write_all(STDOUT_FILENO, number);
-    io::write_all(STDOUT_FILENO, &[(n / 256) as u8, (n % 256) as u8]);
-    io::write_all(STDOUT_FILENO, text);
+    rt.write_all(&[level, parts])?;
+    rt.write_all(number)?;
+    rt.write_all(&[(n / 256) as u8, (n % 256) as u8])?;
+    rt.write_all(text)
 }
 
-fn hear(b: Board, frame: &[u8]) -> Board {
+fn hear(rt: &impl Print, b: Board, frame: &[u8]) -> io::Result<Board> {
     let mut out = [0u8; 1341];
     let heard = board::hear(b, frame, &mut out);
-    io::write_all(STDOUT_FILENO, &[heard.answer]);
+    rt.write_all(&[heard.answer])?;
     if heard.answer == 1 {
         let number = heard.number;
         show(
+            rt,
             heard.level,
             heard.parts,
             &number,
             octets::part(&out, 0, heard.length),
-        );
+        )?;
     }
-    heard.board
+    Ok(heard.board)
 }
 
 // The first n frames of the receiver's output, in order.
-fn hear_all(b: Board, out: &[u8], n: usize) -> Board {
+fn hear_all(rt: &impl Print, b: Board, out: &[u8], n: usize) -> io::Result<Board> {
     let mut now = b;
     let mut k: usize = 0;
     let mut at: usize = 0;
     while k < n {
-        now = hear(now, octets::part(out, at, 8));
-        at = std::num::wrapping_add_usize(at, 8);
+        now = hear(rt, now, octets::part(out, at, 8))?;
+        at = at.wrapping_add(8);
         k += 1;
     }
-    now
+    Ok(now)
 }
 
 // Air bytes, as many as are there; none is the input's end.
-fn take_air(h: Hearing) -> Hearing {
+fn take_air(rt: &impl Print, input: &mut impl Read, h: Hearing) -> io::Result<Hearing> {
     let mut delivery = [0u8; 512];
-    let got = libc::read(STDIN_FILENO, &mut delivery);
-    let n = io::count(got, &delivery);
+    let n = input.read(&mut delivery)?;
     let mut frames = [0u8; 320];
     let mut counts = [0u8; 40];
     let r = h.receiver;
     let received = receiver::receive(r, octets::part(&delivery, 0, n), &mut frames, &mut counts);
     let b = h.board;
-    let board = hear_all(b, &frames, received.frames);
+    let board = hear_all(rt, b, &frames, received.frames)?;
     let receiver = received.receiver;
-    Hearing {
+    Ok(Hearing {
         receiver: receiver,
         board: board,
         ended: n == 0,
-    }
+    })
 }
 
 // A frame; less than one is the input's end.
-fn take_frame(h: Hearing) -> Hearing {
+fn take_frame(rt: &impl Print, input: &mut impl Read, h: Hearing) -> io::Result<Hearing> {
     let mut frame = [0u8; 8];
-    let n = io::read_full(STDIN_FILENO, &mut frame);
+    let n = intake::fill(input, &mut frame)?;
     let mut next = h;
     if n < 8 {
         next.ended = true;
-        return next;
+        return Ok(next);
     }
     let b = h.board;
-    let board = hear(b, &frame);
+    let board = hear(rt, b, &frame)?;
     next.board = board;
-    next
+    Ok(next)
 }
 
-// A proved loop ends, and nothing says that the input does: so the turns are counted down from a number that no run uses up.
-fn run(groups: bool) {
+// A proved loop ends, and nothing says that the input does: so the turns are counted up to a number that no run reaches.
+fn run(rt: &impl Print, input: &mut impl Read, groups: bool) -> io::Result<()> {
     let mut h = begin();
-    let mut turns = u64::MAX;
-    while turns > 0 {
-        h = if groups { take_frame(h) } else { take_air(h) };
+    for _ in 0..u64::MAX {
+        h = if groups {
+            take_frame(rt, input, h)?
+        } else {
+            take_air(rt, input, h)?
+        };
         if h.ended {
-            return;
+            return Ok(());
         }
-        turns -= 1;
     }
+    Ok(())
 }
 
-fn main() {
+fn main(rt: HostRuntime) -> io::Result<()> {
+    let mut input = rt.reader();
     let mut what = [0u8; 1];
-    io::read_full(STDIN_FILENO, &mut what);
+    intake::fill(&mut input, &mut what)?;
     match what[0] {
-        b'A' => run(false),
-        b'G' => run(true),
-        _ => (),
+        b'A' => run(&rt, &mut input, false),
+        b'G' => run(&rt, &mut input, true),
+        _ => Ok(()),
     }
 }

@@ -184,7 +184,8 @@ pub fn take_in(stories: Stories, packet: &[u8], out: &mut [u8]) -> Shown
     let x = parts::part_of(packet);
     let body = reader::body(packet);
     if !x.belongs {
-        let n = bytes::copy(body, out);
+        let n = body.len();
+        out[0..n].copy_from_slice(body);
         return show(x, n, stories);
     }
     let n = body.len();

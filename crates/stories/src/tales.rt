@@ -143,7 +143,8 @@ pub(crate) fn with_text(p: Tale, k: usize, text: &[u8]) -> Tale
 {
     let at = 149 * k;
     let mut b = p.bytes;
-    bytes::copy(text, &mut b[at..]);
+    let end = at + text.len();
+    b[at..end].copy_from_slice(text);
     let mut q = p;
     q.lengths[k] = (4 + text.len()) as u8;
     q.bytes = b;
@@ -175,7 +176,8 @@ fn put_text(p: Tale, k: usize, out: &mut [u8], to: usize) -> usize
     let n = size_at(p, k);
     let at = 149 * k;
     let b = p.bytes;
-    bytes::copy(&b[at..at + n], &mut out[to..]);
+    let end = to + n;
+    out[to..end].copy_from_slice(&b[at..at + n]);
     to + n
 }
 

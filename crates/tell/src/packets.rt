@@ -69,7 +69,8 @@ fn put_text(body: &mut [u8], text: &[u8])
     requires { 4 + length text.now ≤ length body.old }
     ensures { body.new ≡ sets body.old 4 text.now }
 {
-    bytes::copy(text, &mut body[4..]);
+    let end = 4 + text.len();
+    body[4..end].copy_from_slice(text);
 }
 
 // The packet of the part with k parts before it.

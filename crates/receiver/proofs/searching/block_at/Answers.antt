@@ -1,0 +1,21 @@
+-- `receiver::searching::block_at`: what its goals need, an arm a block. Assumes nothing.
+use mathlib.Core.Path.{sym, ap}
+use Prim.Native.Nat.{◌/◌, ◌%◌}
+use Rattle.receiver.specs.Search.{which}
+use Rattle.receiver.proofs.Blocks.{which_last}
+use Rattle.receiver.proofs.searching.block_at.Goals as goal
+
+pub returns-in-0 : goal.returns-in-0
+unfolding which
+returns-in-0 c = let a = c.args in sym (ap (which (a.x / 274877906944) (a.x / 4096 % 67108864) (a.y / 274877906944) (a.y / 4096 % 67108864)) c.in-0.is)
+
+pub returns-in-1 : goal.returns-in-1
+unfolding which
+returns-in-1 c = let a = c.args in sym (ap (which (a.x / 274877906944) (a.x / 4096 % 67108864) (a.y / 274877906944) (a.y / 4096 % 67108864)) c.in-1.is)
+
+pub returns-in-2 : goal.returns-in-2
+unfolding which
+returns-in-2 c = let a = c.args in sym (ap (which (a.x / 274877906944) (a.x / 4096 % 67108864) (a.y / 274877906944) (a.y / 4096 % 67108864)) c.in-2.is)
+
+pub returns-in_default : goal.returns-in_default
+returns-in_default c = let a = c.args in which_last (a.x / 274877906944) (a.x / 4096 % 67108864) (a.y / 274877906944) (a.y / 4096 % 67108864) a.k c.in_default.in_default-own.rest.0.0.1 c.in_default.in_default-own.rest.0.1 c.in_default.in_default-own.rest.1
