@@ -5,10 +5,10 @@ use Rattle.samples.proofs.is_sample.Goals as goal
 
 pub whole_within-requires : goal.whole_within-requires
 unfolding within is_whole whole_of neg of_bits
-whole_within-requires c =  record {
-      t = tt;
-      t_2 = tt;
-    }
+whole_within-requires c = record {
+  t = tt;
+  t_2 = tt;
+}
 
 pub returns : goal.returns
 unfolding whole_of neg of_bits
