@@ -1,0 +1,13 @@
+use mathlib.Core.Path.{◌≡◌}
+use Prim.Native.Nat.{◌-◌, ◌≤◌}
+use lib.ListN.{length}
+use Rattle.laws.specs.Scan.{all}
+use Rattle.story.specs.Joining.{lent, is_part}
+use Rattle.join.proofs.Cuts.{onward}
+use Rattle.join.proofs.lent.all_parts.Given as goal
+
+abbrev pub invariant-loop-i : goal.invariant-loop-i
+invariant-loop-i l = (all is_part (lent l.packets) ≡ all is_part (onward l.packets l.m l.i)) × (l.i ≤ l.n) × (l.n ≡ length l.packets) × (l.m ≤ 10)
+
+abbrev pub decreases-loop-i : goal.decreases-loop-i
+decreases-loop-i l = l.n - l.i
