@@ -14,7 +14,7 @@ use Rattle.laws.proofs.Elements.{by_test, all_at}
 use Rattle.laws.proofs.Below.{below_yes, below_no}
 use Rattle.laws.proofs.Writes.{sets_append, from_front}
 use Rattle.laws.specs.Lists.{same}
-use Rattle.story.proofs.Copying.{copied_in}
+use Rattle.laws.proofs.Parts.{in_place}
 use Rattle.stories.specs.declared.Part.{Part}
 use Rattle.stories.specs.declared.Tale.{Tale}
 use Rattle.stories.specs.Tales.{fair, is_heard, text_at, holds_text, contradicts, is_whole, texts_from, whole_text, taken_for, opened}
@@ -102,10 +102,8 @@ module _ (p : Tale) (x : Part) (t : List ℕ) where
   open_other h e f = sym (if_no _ _ (and_yes _ h ∙ ap not (and_yes _ (heard p x.place e) ∙ ap not f)))
 
 -- ---- a part is kept
-pub text_kept : (l t part : List ℕ) (k : ℕ) → length l ≡ 1341 → k < 9 → length t ≤ 149 → part ≡ take (length t) t ++ drop (length t) (take (1341 - 149 * k) (drop (149 * k) l)) → put_mid (149 * k) (1341 - 149 * k) l part ≡ sets l (149 * k) t
-text_kept l t part k n h g e =
-    ap (λ (m : ℕ). put_mid (149 * k) (m - 149 * k) l part) (sym n)
-    ∙ copied_in l t part (149 * k) (omega (arith, n)) (e ∙ ap (λ (m : ℕ). take (length t) t ++ drop (length t) (take (m - 149 * k) (drop (149 * k) l))) (sym n))
+pub text_kept : (l t part : List ℕ) (k : ℕ) → length l ≡ 1341 → k < 9 → length t ≤ 149 → part ≡ t → put_mid (149 * k) (149 * k + length t - 149 * k) l part ≡ sets l (149 * k) t
+text_kept l t part k n h g e = in_place l t part (149 * k) (149 * k + length t - 149 * k) (omega arith) (omega (arith, n)) e
 
 -- ---- every part
 pub whole_stop : (p : Tale) (k : ℕ) → k < p.total → get_or p.lengths k 0 ≡ 0 → is_whole p ≡ false
@@ -164,5 +162,5 @@ unfolding text_at
 text_brief p k s h = omega (arith, length-take (get_or p.lengths k 0 - 4) (drop (149 * k) p.bytes), size_brief p.lengths k s h)
 
 -- a copy to the output's start
-pub copied_front : (t l o : List ℕ) → length t ≤ length l → o ≡ take (length t) t ++ drop (length t) l → o ≡ sets l 0 t
-copied_front t l o h e = e ∙ ap (λ (u : List ℕ). u ++ drop (length t) l) (take-length t) ∙ sym (from_front t l h)
+pub copied_front : (t l part : List ℕ) → length t ≤ length l → part ≡ t → put_mid 0 (length t - 0) l part ≡ sets l 0 t
+copied_front t l part h e = in_place l t part 0 (length t - 0) (omega arith) (omega arith) e

@@ -1,0 +1,8 @@
+-- `stories::unshown`: what its goals need. Assumes nothing.
+use mathlib.Core.Path.{refl}
+use Rattle.stories.specs.Tales.{zeros}
+use Rattle.stories.proofs.unshown.Goals as goal
+
+pub returns : goal.returns
+unfolding zeros
+returns c = refl
