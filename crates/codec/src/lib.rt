@@ -61,8 +61,7 @@ fn content_told(c: Content) -> PlainContent
 
 // What a packet says, as `reader::read` does; its codes, its entries and the digits beside its content in what is lent,
 // which stays as it was where the packet is refused.
-#[unsafe(no_mangle)]
-pub extern "C" fn codec_read(
+pub fn codec_read(
     packet: &[u8],
     codes: &mut [u8; 322],
     entries: &mut [u8; 272],
@@ -119,8 +118,7 @@ fn fields_from(f: PlainFields, digits: [u8; 35]) -> Fields
 }
 
 // Writes a packet, as `writer::write` does.
-#[unsafe(no_mangle)]
-pub extern "C" fn codec_write(
+pub fn codec_write(
     fields: PlainFields,
     digits: &[u8; 35],
     codes: &[u8],

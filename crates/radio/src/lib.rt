@@ -34,16 +34,14 @@ pub struct DecidedSymbol {
 }
 
 // A receiver that has heard nothing.
-#[unsafe(no_mangle)]
-pub extern "C" fn radio_fresh() -> Receiver
+pub fn radio_fresh() -> Receiver
     ensures { result ≡ fresh_receiver }
 {
     receiver::fresh()
 }
 
 // Takes a delivery.
-#[unsafe(no_mangle)]
-pub extern "C" fn radio_receive(
+pub fn radio_receive(
     receiver: Receiver,
     delivery: &[u8],
     out: &mut [u8],
@@ -57,16 +55,14 @@ pub extern "C" fn radio_receive(
 }
 
 // The check of a packet's bytes.
-#[unsafe(no_mangle)]
-pub extern "C" fn radio_packet_check(bytes: &[u8]) -> u16
+pub fn radio_packet_check(bytes: &[u8]) -> u16
     ensures { result ≡ crc16 bytes.now }
 {
     crc::packet_check(bytes)
 }
 
 // A packet on air, as `on_air` writes it.
-#[unsafe(no_mangle)]
-pub extern "C" fn radio_on_air(packet: &[u8], level: u8, version: u8, out: &mut [u8]) -> Sent
+pub fn radio_on_air(packet: &[u8], level: u8, version: u8, out: &mut [u8]) -> Sent
     ensures answer { result ≡ sent_as (aired_of packet.now level version out.old) }
     ensures out { out.new ≡ aired_into packet.now level version out.old }
 {
@@ -91,8 +87,7 @@ fn letter_number(carried: Carried) -> u32
 }
 
 // The letter that 26 bits carry: 0 for none, 1 to 5 for A, B, C, C' and D.
-#[unsafe(no_mangle)]
-pub extern "C" fn radio_letter(bits: u32) -> u32
+pub fn radio_letter(bits: u32) -> u32
     ensures { result ≡ letter_number (letter_of bits) }
 {
     letter_number(block::letter_of(bits))
@@ -119,8 +114,7 @@ fn product_of(verdict: Verdict) -> f64
 }
 
 // Decides a symbol of 32 numbers, in phase and quadrature in turn.
-#[unsafe(no_mangle)]
-pub extern "C" fn radio_decide(state: Pair, symbol: &[f64]) -> DecidedSymbol
+pub fn radio_decide(state: Pair, symbol: &[f64]) -> DecidedSymbol
     ensures { result ≡ decided_as (decided state symbol.now) }
 {
     let d = samples::decide(state, symbol);
