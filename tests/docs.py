@@ -92,6 +92,16 @@ def closed_forms():
     return re.findall(r"`(\w+)`", said.group(1)) if said else []
 
 
+def apart():
+    """The functions that read what is not ours to say: the list of docs/CONTRACTS.md. Each takes a reader or the runtime's files."""
+    said = re.search(r"^Not equations: (.*?)\.\s", text("docs/CONTRACTS.md"), re.M | re.S)
+    return re.findall(r"`(\w+::\w+)`", said.group(1)) if said else []
+
+
+def takes_input(contract):
+    return re.search(r": &(?:mut )?(?:R\b|impl Files\b)", contract.partition("ensures")[0]) is not None
+
+
 def is_closed(contract, forms):
     """Whether a contract leaves one answer and one content of each lent memory: an equation, or a closed form, for each of them."""
     head, *clauses = re.split(r"\bensures\b", contract)
@@ -143,14 +153,14 @@ def thin_crates_hold():
 def contracts_hold():
     page = "docs/CONTRACTS.md"
     rows = {m.group(1): m.group(0) for m in re.finditer(r"^\| `([a-z_]+::\w+)\(.*$", text(page), re.M)}
-    forms = closed_forms()
+    forms, reading = closed_forms(), apart()
     for crate, name, contract in public_functions():
         if is_thin(crate):
             continue
         row = rows.pop("%s::%s" % (crate, name), None)
         if "ensures" not in contract or "requires" in contract:
             fault(crate, "`%s` is public and its contract has no `ensures`, or has a `requires`" % name)
-        elif not is_closed(contract, forms):
+        elif not is_closed(contract, forms) and not ("%s::%s" % (crate, name) in reading and takes_input(contract)):
             fault(crate, "the contract of `%s` is not an equation, or a closed form of %s, for its answer and for each memory lent" % (name, page))
         if row is None:
             fault(page, "no row for `%s::%s`" % (crate, name))
