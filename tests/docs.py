@@ -115,6 +115,16 @@ def is_closed(contract, forms):
     return said == set(wanted)
 
 
+def reads(contract):
+    """Whether a function reads from outside: what comes is no value that its contract could name."""
+    return bool(re.search(r"<\w+: Read>|&impl Files\b", contract))
+
+
+def is_of_what_came(contract):
+    """Whether each clause of such a function is of what came, an `Ok` or a `Some`."""
+    return all(re.match(r"(?:\w+ )?\{ If(?:Ok|Some) result ", clause.strip()) for clause in re.split(r"\bensures\b", contract)[1:])
+
+
 def of_code(crate, label):
     return any(re.search(r"^file: src/", text(p), re.M) for p in files("crates/%s/must-fail/%s.edit" % (crate, label)))
 
@@ -150,7 +160,9 @@ def contracts_hold():
         row = rows.pop("%s::%s" % (crate, name), None)
         if "ensures" not in contract or "requires" in contract:
             fault(crate, "`%s` is public and its contract has no `ensures`, or has a `requires`" % name)
-        elif not is_closed(contract, forms):
+        elif reads(contract) and not is_of_what_came(contract):
+            fault(crate, "a clause of `%s`, which reads from outside, is not of what came" % name)
+        elif not reads(contract) and not is_closed(contract, forms):
             fault(crate, "the contract of `%s` is not an equation, or a closed form of %s, for its answer and for each memory lent" % (name, page))
         if row is None:
             fault(page, "no row for `%s::%s`" % (crate, name))
