@@ -17,7 +17,7 @@ ELSEWHERE = {
     "bench/run": "tests/same.test runs it, with no clock",
     "apt-get install gr-rds python3-crcmod": "tests/independent.test does",
     "/usr/bin/python3 tests/independent/decoder.py recording": "tests/independent.test runs it",
-    "rt try": "a form", "rt check": "a form", "rt fmt": "a form", "rt ci": "tests/all runs it",
+    "rt try": "a form", "rt check": "a form", "rt fmt": "a form", "rt ci": "tests/all runs it", "rt lib": "tests/same.test makes both archives",
 }
 
 
