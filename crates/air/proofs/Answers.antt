@@ -1,4 +1,4 @@
--- The on_air writer's answers, one law for each way out of the code. Assumes nothing.
+-- The on-air writer's answers, one law for each way out of the code. Assumes nothing.
 use mathlib.Core.Path.{◌≡◌, refl, sym, ap, ap₂, ◌∙◌}
 use mathlib.Core.Bool.{true, false, not, ◌&&◌}
 use mathlib.Core.List.{List, [], ◌∷◌, ◌++◌}

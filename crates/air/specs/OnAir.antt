@@ -1,4 +1,4 @@
--- The on_air writer (paper 01, "Numbers given back": on_air writer; 000, 6.3 and table 22): a packet as frames on air.
+-- The on-air writer (paper 01, "Numbers given back": on-air writer; 000, 6.3 and table 22): a packet as frames on air.
 use Rattle.std.specs.Prelude.{Bool, cond, not, ◌&&◌, List, [], ◌∷◌, ◌++◌, ℕ, zero, suc, ◌+◌, ◌*◌, ◌/◌, ◌%◌, ◌^◌, length, get_or, drop, eqb, leb, ltb}
 use Rattle.laws.specs.Refusals.{Case, first}
 use Rattle.crc.specs.Crc16.{crc16}
@@ -10,7 +10,7 @@ use Rattle.frame.specs.Heading.{reserved, heading_bytes}
 use Rattle.frame.specs.OnAir.{stream_of}
 use Rattle.air.specs.declared.Aired.{Aired}
 
--- how many frames P bytes take: the least N with 4N no less than P + 2 (01, on_air writer)
+-- how many frames P bytes take: the least N with 4N no less than P + 2 (01, on-air writer)
 unfoldable pub frames_for : ℕ → ℕ
 frames_for p = (p + 5) / 4
 
@@ -36,7 +36,7 @@ frame_of packet h =
 abbrev pub heading_for : ℕ → ℕ → Total → Number → Heading
 heading_for level version total number = record { level = level; version = version; total = total; number = number }
 
--- n frames from a number on (01, on_air writer)
+-- n frames from a number on (01, on-air writer)
 unfoldable pub frames_from : List ℕ → ℕ → ℕ → Number → ℕ → List (List ℕ)
 frames_from packet level version number zero = []
 frames_from packet level version number (suc n) =
@@ -63,7 +63,7 @@ cases packet level version out =
 unfoldable pub answer_of : List ℕ → ℕ → ℕ → List ℕ → ℕ
 answer_of packet level version out = first (cases packet level version out)
 
--- the count of frames beside 0, and 0 beside a refusal (01, on_air writer)
+-- the count of frames beside 0, and 0 beside a refusal (01, on-air writer)
 unfoldable pub aired_of : List ℕ → ℕ → ℕ → List ℕ → Aired
 aired_of packet level version out =
     record {

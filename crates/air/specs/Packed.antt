@@ -1,4 +1,4 @@
--- What the functions under the on_air writer ask of each other and give.
+-- What the functions under the on-air writer ask of each other and give.
 use Rattle.std.specs.Prelude.{◌≡◌, List, ◌++◌, ℕ, ◌+◌, ◌*◌, ◌/◌, ◌<◌, ◌≤◌, length}
 use Rattle.laws.specs.Bits.{bits_of, bytes}
 use Rattle.crc.specs.Crc16.{crc16}
@@ -25,7 +25,7 @@ pub record Room (out packet : List ℕ) (check : ℕ) : Type 0 where
   pub right : check ≡ crc16 packet
   pub short : length packet ≤ 250
 
--- a packet and a heading that none of 20, 13, 27 and 10 refuses (01, on_air writer)
+-- a packet and a heading that none of 20, 13, 27 and 10 refuses (01, on-air writer)
 pub record Sendable (packet : List ℕ) (level version : ℕ) (out : List ℕ) : Type 0 where
   pub short : length packet ≤ 250
   pub level_small : level < 7

@@ -84,7 +84,7 @@ module _ (h : Heading) (f : Fits h) where
   unfolding heading_bits bits_of
   length_heading = refl
 
-  -- the four bytes as the on_air writer works them out
+  -- the four bytes as the on-air writer works them out
   pub bytes_of : heading_bytes h ≡ (h.level * 32 + h.version) ∷ (h.total.0 * 4 + h.number.0 / 16) ∷ 0xB0 ∷ (h.number.0 % 16) ∷ []
   unfolding heading_bytes run
   bytes_of = rw (length_heading, first_byte_lem, second_byte, third_byte, fourth_byte)

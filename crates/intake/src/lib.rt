@@ -1,7 +1,7 @@
 // Reading in whole pieces, where one read may give less than is there.
 #![tactic(auto)]
 
-ghost use Rattle.std.specs.Prelude.{◌≡◌, ◌+◌, ◌<◌, ◌≤◌, IfOk, IfSome, drop, length, take};
+ghost use Rattle.std.specs.Prelude.{◌≡◌, ◌+◌, ◌<◌, ◌≤◌, IfOk, IfSome, None, drop, length, take};
 ghost use Rattle.std.specs.Io.KnownBytes.{Consumes, IsAtEnd};
 
 use std::io::Read;
@@ -40,6 +40,7 @@ pub fn fill<R: Read>(input: &mut R, piece: &mut [u8]) -> io::Result<usize>
 pub fn whole<R: Read>(input: &mut R, space: &mut [u8]) -> io::Result<Option<usize>>
     ensures within { IfOk result (λ r. IfSome r (λ n. n ≤ length space.new)) }
     ensures bytes { IfOk result (λ r. IfSome r (λ n. IfSome (R.remaining input.old) (λ all. all ≡ take n space.new))) }
+    ensures none { IfOk result (λ r. r ≡ None → IfSome (R.remaining input.old) (λ all. length space.new < length all)) }
 {
     let n = fill(input, space)?;
     let mut more = [0u8; 1];

@@ -5,7 +5,7 @@ use Rattle.board.specs.declared.Board.{Board}
 use Rattle.board.specs.Board.{heard_of, heard_output}
 
 -- ---- on air
--- the bytes that the on_air writer writes of a packet, lent so much
+-- the bytes that the on-air writer writes of a packet, lent so much
 abbrev pub air_of : List ℕ → List ℕ → ℕ → ℕ → List ℕ
 air_of lent p l v = take (13 * (aired_of p l v lent).frames) (aired_into p l v lent)
 

@@ -44,7 +44,7 @@ back [] calls a h b d = absurd (omega arith)
 back (f ∷ fs) [] a h b d = let z : 0 ≡ length (stream_of (f ∷ fs)) = ap length d in absurd (omega (arith, length_stream (f ∷ fs)))
 back (f ∷ fs) (c ∷ cs) a h b d = clean_air (f ∷ fs) c cs a b d
 
--- Whatever packet, level and version the on_air writer takes: the bytes that it writes, given to a fresh receiver in deliveries of at most 512 bytes
+-- Whatever packet, level and version the on-air writer takes: the bytes that it writes, given to a fresh receiver in deliveries of at most 512 bytes
 -- cut anywhere, come back as exactly that packet's frames, in order, with no block mended; no delivery is refused, and the receiver ends right behind a frame
 -- with nothing pending.
 pub air_comes_back : (packet : List ℕ) (level version : ℕ) (out : List ℕ) → Under 256 packet → (aired_of packet level version out).answer ≡ 0

@@ -31,7 +31,7 @@ unfolding receive_answer
 receive_exactly r d out counts = rw (answer_is r d out counts) (exactly (receive_cases r d out counts) (receive_apart r d out counts))
 
 -- Whatever is given to a function that can refuse, each of its numbers comes exactly when its case holds and none before it does, 0 exactly when no
--- case holds, and no other number comes: the heading's reader, the on_air writer, the receiver, and the collector's offer, release and copy.
+-- case holds, and no other number comes: the heading's reader, the on-air writer, the receiver, and the collector's offer, release and copy.
 pub answer_exact : ((frame : List ℕ) → Exactly (heading_of frame).answer (refusals frame))
     × ((packet : List ℕ) (level version : ℕ) (out : List ℕ) → Exactly (aired_of packet level version out).answer (cases packet level version out))
     × ((r : Receiver) (delivery out counts : List ℕ) → Exactly (received_of r delivery out counts).answer (receive_cases r delivery out counts))

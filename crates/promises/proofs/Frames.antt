@@ -255,7 +255,7 @@ answers_seen (f ∷ fs) h t =
     let e = offer_same h t f in
     ap₂ (λ (n : ℕ) (l : List ℕ). n ∷ l) (ap (λ (o : Offered). o.answer) e.0) (answers_seen fs (offer_gives h f).collector e.1 ∙ ap (λ (o : Offered). answers_to o.collector fs) e.0)
 
--- Whatever packet, level and version the on_air writer takes: an empty collector that is offered the packet's frames in order answers 0 to each but
+-- Whatever packet, level and version the on-air writer takes: an empty collector that is offered the packet's frames in order answers 0 to each but
 -- the last and 1 to the last; then copy, lent memory that is long enough, answers 0 with the packet's size and hands back the packet, the rest as it was.
 pub frames_come_back : (packet : List ℕ) (level version : ℕ) (out : List ℕ) → Under 256 packet → (aired_of packet level version out).answer ≡ 0
     → (answers_from no_holdings (frames_of packet level version) ≡ replicate ((aired_of packet level version out).frames - 1) 0 ++ (1 ∷ []))

@@ -1,4 +1,4 @@
--- What is known of a packet that the on_air writer takes, and of its frames. Assumes nothing.
+-- What is known of a packet that the on-air writer takes, and of its frames. Assumes nothing.
 use mathlib.Core.Path.{◌≡◌, refl}
 use mathlib.Core.Bool.{Bool, true, false, not}
 use mathlib.Core.List.{List, [], ◌∷◌, ◌++◌}

@@ -73,7 +73,7 @@ pub five : number_at (0xff ∷ 0x40 ∷ 0x14 ∷ replicate 6 0) 1 ≡ of_whole (
 unfolding number_at word_at of_bits of_int
 five = refl
 
--- ---- a half_wave in the phase (3, -4)
+-- ---- a half-wave in the phase (3, -4)
 abbrev half_wave : List ℤ
 half_wave = pos 1 ∷ pos 3 ∷ pos 5 ∷ pos 6 ∷ pos 6 ∷ pos 5 ∷ pos 3 ∷ pos 1 ∷ []
 

@@ -26,7 +26,7 @@ unfoldable pub phased : List ℤ → ℤ → ℤ → List ℤ
 phased [] i q = []
 phased (w ∷ ws) i q = (w *ℤ i) ∷ (w *ℤ q) ∷ phased ws i q
 
--- a half_wave, then the same turned (004, 1.3: two-phase)
+-- a half-wave, then the same turned (004, 1.3: two-phase)
 abbrev pub wave_of : List ℤ → ℤ → ℤ → List ℤ
 wave_of half i q = phased (half ++ map neg_ℤ half) i q
 

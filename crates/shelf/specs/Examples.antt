@@ -72,7 +72,7 @@ pub torn : add_answer (drop 1 kept) heard (replicate 256 0) ≡ 34
 unfolding add_answer add_cases first whole record_of
 torn = refl
 
--- the on_air writer's numbers in its order, then 34: an empty packet, a reserved level, version 32, memory of 255 bytes, and none of them
+-- the on-air writer's numbers in its order, then 34: an empty packet, a reserved level, version 32, memory of 255 bytes, and none of them
 pub made_answers : make_answer 0 32 [] [] ∷ make_answer 0 32 (0xA8 ∷ 0 ∷ []) [] ∷ make_answer 6 32 (0xA8 ∷ 0 ∷ []) [] ∷ make_answer 6 31 (0xA8 ∷ 0 ∷ []) (replicate 255 0) ∷ make_answer 6 31 (0xA8 ∷ 0 ∷ []) (replicate 256 0) ∷ []
     ≡ 20 ∷ 13 ∷ 27 ∷ 34 ∷ 0 ∷ []
 unfolding make_answer make_cases first sized reserved packet_size at bits_of spread

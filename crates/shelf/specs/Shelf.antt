@@ -54,7 +54,7 @@ summary_answer shelf summary = first (summary_cases shelf summary)
 unfoldable pub summarized : List ℕ → List ℕ → List ℕ
 summarized shelf summary = cond (eqb (summary_answer shelf summary) 0) (summary_of shelf (records_in shelf)) summary
 
--- ---- a record of a whole packet: the on_air writer's 20, 13 and 27, then 34
+-- ---- a record of a whole packet: the on-air writer's 20, 13 and 27, then 34
 unfoldable pub make_cases : ℕ → ℕ → List ℕ → List ℕ → List Case
 make_cases level version packet out =
     (not (sized packet), 20) ∷ (reserved level, 13) ∷ (ltb 31 version, 27) ∷ (not (fits out), 34) ∷ []
