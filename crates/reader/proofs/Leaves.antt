@@ -30,15 +30,6 @@ pub flagged : {A B : Type 0} (h g t : Bool) → (A → t ≡ false) → (B → t
 flagged h true t f e w = ⊎_elim (λ u. u.1 ∙ sym (f u.0)) (λ u. u.1 ∙ sym (e u.0)) w
 flagged h false t f e w = ⊎_elim (λ u. u.1) (λ u. u.1) w
 
--- its two cases by themselves
-pub put_down : (g t : Bool) → t ≡ false → false ≡ (g && t)
-put_down true t e = sym e
-put_down false t e = refl
-
-pub left_up : (g t : Bool) → t ≡ true → g ≡ (g && t)
-left_up true t e = sym e
-left_up false t e = refl
-
 -- a number that is tested by its two ends
 pub both_ends : (g h l : Bool) (lo hi x : ℕ) → h ≡ (g && leb lo x) → l ≡ (h && leb x hi) → l ≡ (g && inside lo hi (x ∷ []))
 unfolding inside

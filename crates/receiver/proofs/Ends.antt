@@ -5,8 +5,8 @@ use mathlib.Core.List.{List, [], ◌∷◌, ◌++◌}
 use Prim.Native.Nat.{ℕ, suc, ◌+◌, ◌*◌, ◌/◌, ◌%◌, ◌-◌, ◌^◌, ◌<◌, ◌≤◌}
 use native.Mathlib.Nat.{add-zero}
 use native.Mathlib.Omega.{arith}
-use lib.ListN.{length, set, take, drop, length-append, length-drop}
-use lib.Seq.{sets, set_comm, take_all, take_at, length-sets, length-take-le}
+use lib.ListN.{length, set, take, drop, length-append}
+use lib.Seq.{sets, set_comm, take_at, length-sets}
 use lib.Pow.{high, low}
 use borrow.Rule.Slice.PartMut.{put_mid}
 use Rattle.laws.specs.Bits.{at, bits_of, bits, bytes}

@@ -5,16 +5,17 @@ use mathlib.Core.Bool.{true, false, not, ◌&&◌}
 use Prim.Native.Nat.{ℕ, suc, ◌+◌, ◌-◌, ◌*◌, ◌≤◌, ◌<◌}
 use native.Mathlib.Omega.{arith}
 use lib.ListN.{length, take, drop, get_or, length-drop, length-take, length-append}
-use lib.Seq.{sets, length-sets, length-take-le, take-length}
+use lib.Seq.{sets, length-sets, length-take-le}
 use lib.Dec.{leb, eqb}
 use borrow.Author.Tests.{le-leb, lt-leb, leb-true, eq-eqb, ne_eqb, eqb-true, eqb-false}
 use borrow.Rule.Slice.PartMut.{put_mid}
 use Rattle.laws.proofs.Cases.{if_yes, if_no, and_yes, and_no, and_both, or_yes, or_no}
 use Rattle.laws.proofs.Elements.{by_test, all_at}
 use Rattle.laws.proofs.Below.{below_yes, below_no}
-use Rattle.laws.proofs.Writes.{sets_append, from_front}
+use Rattle.laws.proofs.Writes.{sets_append}
 use Rattle.laws.specs.Lists.{same}
 use Rattle.laws.proofs.Parts.{in_place}
+use Rattle.story.proofs.Copying.{copied_in}
 use Rattle.stories.specs.declared.Part.{Part}
 use Rattle.stories.specs.declared.Tale.{Tale}
 use Rattle.stories.specs.Tales.{fair, is_heard, text_at, holds_text, contradicts, is_whole, texts_from, whole_text, taken_for, opened}
@@ -103,7 +104,7 @@ module _ (p : Tale) (x : Part) (t : List ℕ) where
 
 -- ---- a part is kept
 pub text_kept : (l t part : List ℕ) (k : ℕ) → length l ≡ 1341 → k < 9 → length t ≤ 149 → part ≡ t → put_mid (149 * k) (149 * k + length t - 149 * k) l part ≡ sets l (149 * k) t
-text_kept l t part k n h g e = in_place l t part (149 * k) (149 * k + length t - 149 * k) (omega arith) (omega (arith, n)) e
+text_kept l t part k n h g e = copied_in l t part (149 * k) (omega (arith, n)) e
 
 -- ---- every part
 pub whole_stop : (p : Tale) (k : ℕ) → k < p.total → get_or p.lengths k 0 ≡ 0 → is_whole p ≡ false

@@ -3,7 +3,6 @@ use borrow.Author.Tests.{not-true, not-false}
 use Rattle.collector.specs.declared.Outcome.{Outcome}
 use Rattle.board.specs.Board.{unheard}
 use Rattle.board.proofs.Hearing.{bad_stories, bad_collector, no_room, not_whole, is_whole_lem}
-use mathlib.Core.Path.{ap}
 use mathlib.Core.Bool.{not}
 use Rattle.board.proofs.hear.Goals as goal
 

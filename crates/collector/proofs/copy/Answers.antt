@@ -14,7 +14,6 @@ use Rattle.collector.specs.declared.Place.{Place}
 use Rattle.collector.specs.Layout.{tops_clear, as_place, as_collector}
 use Rattle.collector.proofs.Seen.{seen_at, copy_bad, copy_seen}
 use borrow.Author.Rules.{rules}
-use mathlib.Core.Path.{ap}
 use mathlib.Core.Bool.{not}
 use Rattle.collector.proofs.copy.Goals as goal
 

@@ -1,6 +1,5 @@
 -- `collector::is_good`: what its goals need. The loop's invariant: what the places left say is what all say. Assumes nothing.
 use mathlib.Core.Path.{◌≡◌, sym, ap, ◌∙◌}
-use mathlib.Core.Bool.{true}
 use mathlib.Core.List.{map}
 use Prim.Native.Nat.{◌+◌}
 use native.Mathlib.Omega.{arith}
@@ -11,10 +10,9 @@ use Rattle.laws.proofs.Cases.{and_yes, and_no}
 use Rattle.laws.proofs.Elements.{length_mapped, all_at}
 use Rattle.collector.specs.declared.Place.{Place}
 use Rattle.collector.specs.Places.{fair, pairs_apart}
-use Rattle.collector.specs.Layout.{top_clear, tops_clear, as_place}
+use Rattle.collector.specs.Layout.{top_clear, as_place}
 use Rattle.collector.proofs.AllPlaces.{good_bad, good_twin, good_next, good_end}
 use borrow.Author.Rules.{rules}
-use mathlib.Core.Path.{ap}
 use mathlib.Core.Bool.{not}
 use Rattle.collector.proofs.is_good.Goals as goal
 

@@ -14,7 +14,6 @@ use Rattle.laws.specs.Refusals.{first}
 use Rattle.laws.proofs.Cases.{and_both}
 use Rattle.collector.specs.Layout.{tops_clear, as_collector}
 use Rattle.collector.proofs.Seen.{offer_bad, offer_seen}
-use mathlib.Core.Path.{ap}
 use mathlib.Core.Bool.{not}
 use Rattle.collector.proofs.offer.Goals as goal
 

@@ -16,7 +16,6 @@ use Rattle.laws.proofs.Cases.{and_both}
 use Rattle.collector.specs.Layout.{top_clear, tops_clear, as_place, as_collector}
 use Rattle.collector.proofs.Seen.{seen_at, release_bad, release_seen}
 use borrow.Author.Rules.{rules}
-use mathlib.Core.Path.{ap}
 use mathlib.Core.Bool.{not}
 use Rattle.collector.proofs.release.Goals as goal
 

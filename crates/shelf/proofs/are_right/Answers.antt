@@ -2,11 +2,9 @@
 use native.Mathlib.Omega.{arith}
 use borrow.Author.Tests.{not-true, not-false}
 use mathlib.Core.Path.{refl, ap, sym, ◌∙◌}
-use mathlib.Core.Bool.{true}
 use Rattle.laws.specs.Below.{below}
 use Rattle.shelf.specs.Record.{right}
 use Rattle.shelf.proofs.Rules.{next_right, one_wrong, all_seen}
-use mathlib.Core.Path.{ap}
 use mathlib.Core.Bool.{not}
 use Rattle.shelf.proofs.are_right.Goals as goal
 

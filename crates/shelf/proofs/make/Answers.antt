@@ -10,7 +10,6 @@ use lib.ListN.{length, length-set}
 use lib.Seq.{length-sets}
 use Rattle.air.proofs.Answers.{sized_short}
 use Rattle.shelf.proofs.Answers.{make_20, make_13, make_27, make_34, make_done, put_record}
-use mathlib.Core.Path.{ap}
 use mathlib.Core.Bool.{not}
 use Rattle.shelf.proofs.make.Goals as goal
 

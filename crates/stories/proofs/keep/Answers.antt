@@ -12,7 +12,6 @@ use Rattle.stories.specs.Tales.{fair, is_whole, whole_text}
 use Rattle.stories.specs.Steps.{unshown_with, shown_with}
 use Rattle.stories.proofs.Keeping.{found_fair, leaves_below, repeat_is, after_is, after_steady, kept_is, kept_5, kept_4, kept_1}
 use borrow.Author.Rules.{rules}
-use mathlib.Core.Path.{ap}
 use mathlib.Core.Bool.{not}
 use Rattle.stories.proofs.keep.Goals as goal
 

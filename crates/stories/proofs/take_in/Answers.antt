@@ -12,7 +12,6 @@ use Rattle.stories.specs.Steps.{shown_with, kept_shown, kept_output}
 use Rattle.stories.proofs.Heads.{known, belongs_is, body_brief}
 use Rattle.stories.proofs.Texts.{copied_front}
 use Rattle.stories.proofs.Answers.{taken_28, taken_10, taken_6, taken_alone, taken_part, keepable}
-use mathlib.Core.Path.{ap}
 use mathlib.Core.Bool.{not}
 use Rattle.stories.proofs.take_in.Goals as goal
 

@@ -7,7 +7,6 @@ use borrow.Author.Tests.{not-true, not-false}
 use Rattle.laws.specs.Scan.{all}
 use Rattle.story.specs.Joining.{is_part}
 use Rattle.join.proofs.Cuts.{onward_next, onward_end, onward_ten, parts_next, parts_stop, parts_end}
-use mathlib.Core.Path.{ap}
 use mathlib.Core.Bool.{not}
 use Rattle.join.proofs.lent.all_parts.Goals as goal
 

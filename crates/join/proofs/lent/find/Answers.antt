@@ -1,5 +1,4 @@
 -- `join::lent::find`: what its goals need. Assumes nothing.
-use mathlib.Core.Bool.{true}
 use Rattle.join.proofs.Bodies.{piece_part}
 use Rattle.story.specs.Joining.{is_part}
 use mathlib.Core.Path.{refl, sym, ap, ◌∙◌}

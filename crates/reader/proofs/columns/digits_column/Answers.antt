@@ -1,15 +1,15 @@
 -- `reader::columns::digits_column`: what its goals need. Assumes nothing.
 use mathlib.Core.Path.{◌≡◌, refl, ap, ◌∙◌}
+use mathlib.Core.Logic.{inl, inr}
 use mathlib.Core.Bool.{◌&&◌}
 use mathlib.Core.List.{List}
 use Prim.Native.Nat.{ℕ, ◌-◌, ◌+◌, ◌*◌}
 use native.Mathlib.Omega.{arith}
-use borrow.Author.Tests.{not-true, not-false}
 use Rattle.laws.specs.Bits.{bits, run}
 use Rattle.laws.specs.Strips.{strips, every}
 use Rattle.laws.proofs.Strips.{row_below}
 use Rattle.format.specs.Format.{inside}
-use Rattle.reader.proofs.Leaves.{put_down, left_up, next_row, strips_turn, every_turn, digits_place}
+use Rattle.reader.proofs.Leaves.{flagged, next_row, strips_turn, every_turn, digits_place}
 use Rattle.reader.proofs.columns.digits_column.Goals.{else-not-here, then-not-here}
 use Rattle.reader.proofs.columns.digits_column.Goals as goal
 
@@ -39,7 +39,7 @@ loop-j-preserved c = let a = c.args in
     let v = run (bits a.b.now) (k.at * 8 - a.c * 4) a.c 4 in
     let P : ℕ → List ℕ = λ r. run (bits a.b.now) (a.e * 8 - a.c * 4 + r * (a.s * 8)) a.c 4 in
     let piece : v ≡ P k.j = ap (λ (q : ℕ). run (bits a.b.now) q a.c 4) (digits_place a.e a.c a.s k.j k.at c.requires.enough k.invariant.1) in
-    let flag : c.if-not-here.good ≡ (k.good && here) = elim c.if-not-here.branch [ then-not-here w ↦ w.good-is ∙ put_down k.good _ (w.if-not-here.true) | else-not-here w ↦ w.good-is ∙ left_up k.good _ (w.if-not-here.false) ] in (
+    let flag : c.if-not-here.good ≡ (k.good && here) = flagged _ k.good _ (λ w. w) (λ w. w) (elim c.if-not-here.branch [ then-not-here w ↦ inl (w.if-not-here.true, w.good-is) | else-not-here w ↦ inr (w.if-not-here.false, w.good-is) ]) in (
       omega arith,
       omega (arith, k.invariant.1, next_row k.j a.s),
       omega (arith, k.invariant.2, next_row k.j a.w),

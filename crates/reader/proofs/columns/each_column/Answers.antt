@@ -1,17 +1,17 @@
 -- `reader::columns::each_column`: what its goals need. Assumes nothing.
 use mathlib.Core.Path.{◌≡◌, refl, ap, ◌∙◌}
+use mathlib.Core.Logic.{inl, inr}
 use mathlib.Core.Bool.{◌&&◌}
 use mathlib.Core.List.{List}
 use Prim.Native.Nat.{ℕ, ◌+◌, ◌*◌}
 use native.Mathlib.Omega.{arith}
 use lib.ListN.{length}
 use lib.Seq.{length-sets}
-use borrow.Author.Tests.{not-true, not-false}
 use Rattle.laws.specs.Bits.{run, bits}
 use Rattle.laws.specs.Strips.{strips, every}
 use Rattle.laws.proofs.Strips.{row_below}
 use Rattle.format.specs.Format.{inside}
-use Rattle.reader.proofs.Leaves.{put_down, left_up, next_row, strips_turn, every_turn}
+use Rattle.reader.proofs.Leaves.{flagged, next_row, strips_turn, every_turn}
 use Rattle.reader.proofs.columns.each_column.Goals.{else-not-here, then-not-here}
 use Rattle.reader.proofs.columns.each_column.Goals as goal
 
@@ -42,7 +42,7 @@ loop-j-preserved c = let a = c.args in
     let l = c.take_each-here.ensures in
     let o = c.take_each-here.new.out in
     let piece : run (bits a.b.now) k.q t.count t.width ≡ P k.j = ap (λ (q : ℕ). run (bits a.b.now) q t.count t.width) k.invariant.1 in
-    let low : c.if-not-here.good ≡ (k.good && c.take_each-here.result) = elim c.if-not-here.branch [ then-not-here w ↦ w.good-is ∙ put_down k.good _ (w.if-not-here.true) | else-not-here w ↦ w.good-is ∙ left_up k.good _ (w.if-not-here.false) ] in (
+    let low : c.if-not-here.good ≡ (k.good && c.take_each-here.result) = flagged _ k.good _ (λ w. w) (λ w. w) (elim c.if-not-here.branch [ then-not-here w ↦ inl (w.if-not-here.true, w.good-is) | else-not-here w ↦ inr (w.if-not-here.false, w.good-is) ]) in (
       omega arith,
       omega (arith, k.invariant.1, next_row k.j (a.s * 8)),
       omega (arith, k.invariant.2, next_row k.j a.w),

@@ -1,5 +1,6 @@
 -- `reader::columns::take_each`: what its goals need. Assumes nothing.
 use mathlib.Core.Path.{◌≡◌, refl, sym, ap, ◌∙◌}
+use mathlib.Core.Logic.{inl, inr}
 use mathlib.Core.Bool.{Bool, true, false, ◌&&◌}
 use mathlib.Core.List.{List, ◌∷◌}
 use Prim.Native.Nat.{ℕ, ◌<◌, ◌-◌, ◌+◌}
@@ -13,7 +14,7 @@ use Rattle.laws.proofs.Bits.{at_small}
 use Rattle.laws.proofs.Cases.{if_yes}
 use Rattle.format.specs.Format.{inside}
 use Rattle.format.proofs.Leaves.{reached, run_step, store_turn, store_done}
-use Rattle.reader.proofs.Leaves.{put_down, left_up, flag_done}
+use Rattle.reader.proofs.Leaves.{flagged, flag_done}
 use Rattle.reader.proofs.columns.take_each.Goals.{else-x-t, else-x-t-2, then-x-t, then-x-t-2}
 use Rattle.reader.proofs.columns.take_each.Goals as goal
 
@@ -52,8 +53,8 @@ loop-j-preserved c = let a = c.args in
     let l = bits a.b.now in
     let x = c.field-x.result in
     let e : x ≡ at l k.q a.t.width = c.field-x.ensures ∙ if_yes _ _ (reached k.q 1 a.t.width (omega (arith, c.requires.0, c.requires.2, k.invariant.1)) (omega arith) (omega (arith, c.requires.1))) in
-    let low : c.if-x-t.good ≡ (k.good && leb a.t.lo x) = elim c.if-x-t.branch [ then-x-t w ↦ w.good-is ∙ put_down k.good _ (lt-leb a.t.lo x w.if-x-t.true) | else-x-t w ↦ w.good-is ∙ left_up k.good _ (le-leb a.t.lo x w.if-x-t.false) ] in
-    let high : c.if-x-t-2.good ≡ (c.if-x-t.good && leb x a.t.hi) = elim c.if-x-t-2.branch [ then-x-t-2 w ↦ w.good-is ∙ put_down c.if-x-t.good _ (lt-leb x a.t.hi w.if-x-t-2.true) | else-x-t-2 w ↦ w.good-is ∙ left_up c.if-x-t.good _ (le-leb x a.t.hi w.if-x-t-2.false) ] in (
+    let low : c.if-x-t.good ≡ (k.good && leb a.t.lo x) = flagged _ k.good _ (λ w. lt-leb a.t.lo x w) (λ w. le-leb a.t.lo x w) (elim c.if-x-t.branch [ then-x-t w ↦ inl (w.if-x-t.true, w.good-is) | else-x-t w ↦ inr (w.if-x-t.false, w.good-is) ]) in
+    let high : c.if-x-t-2.good ≡ (c.if-x-t.good && leb x a.t.hi) = flagged _ c.if-x-t.good _ (λ w. lt-leb x a.t.hi w) (λ w. le-leb x a.t.hi w) (elim c.if-x-t-2.branch [ then-x-t-2 w ↦ inl (w.if-x-t-2.true, w.good-is) | else-x-t-2 w ↦ inr (w.if-x-t-2.false, w.good-is) ]) in (
       omega arith,
       omega (arith, k.invariant.1, c.requires.1),
       length-set k.out (a.i + k.j) x ∙ k.invariant.2,

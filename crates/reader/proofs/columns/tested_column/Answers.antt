@@ -1,5 +1,6 @@
 -- `reader::columns::tested_column`: what its goals need. Assumes nothing.
 use mathlib.Core.Path.{◌≡◌, refl, ap, ◌∙◌}
+use mathlib.Core.Logic.{inl, inr}
 use mathlib.Core.Bool.{◌&&◌}
 use mathlib.Core.List.{List, [], ◌∷◌}
 use Prim.Native.Nat.{ℕ, ◌<◌, ◌+◌, ◌*◌}
@@ -11,7 +12,7 @@ use Rattle.laws.specs.Bits.{bits, run}
 use Rattle.laws.specs.Strips.{strips, every}
 use Rattle.laws.proofs.Strips.{row_below}
 use Rattle.format.specs.Format.{inside}
-use Rattle.reader.proofs.Leaves.{put_down, left_up, both_ends, next_row, strips_turn, every_turn, octet_piece}
+use Rattle.reader.proofs.Leaves.{flagged, both_ends, next_row, strips_turn, every_turn, octet_piece}
 use Rattle.reader.proofs.columns.tested_column.Goals.{else-x-hi, else-x-lo, then-x-hi, then-x-lo}
 use Rattle.reader.proofs.columns.tested_column.Goals as goal
 
@@ -41,8 +42,8 @@ loop-j-preserved c = let a = c.args in
     let small : x < 256 = omega (arith, c.shared_slice_known-1.given k.at) in
     let P : ℕ → List ℕ = λ r. run (bits B) (a.k * 8 + r * (a.s * 8)) 1 8 in
     let piece : x ∷ [] ≡ P k.j = octet_piece B a.k a.s k.j k.at x small refl k.invariant.1 in
-    let low : c.if-x-lo.good ≡ (k.good && leb a.lo x) = elim c.if-x-lo.branch [ then-x-lo w ↦ w.good-is ∙ put_down k.good _ (lt-leb a.lo x w.if-x-lo.true) | else-x-lo w ↦ w.good-is ∙ left_up k.good _ (le-leb a.lo x w.if-x-lo.false) ] in
-    let high : c.if-x-hi.good ≡ (c.if-x-lo.good && leb x a.hi) = elim c.if-x-hi.branch [ then-x-hi w ↦ w.good-is ∙ put_down c.if-x-lo.good _ (lt-leb x a.hi w.if-x-hi.true) | else-x-hi w ↦ w.good-is ∙ left_up c.if-x-lo.good _ (le-leb x a.hi w.if-x-hi.false) ] in (
+    let low : c.if-x-lo.good ≡ (k.good && leb a.lo x) = flagged _ k.good _ (λ w. lt-leb a.lo x w) (λ w. le-leb a.lo x w) (elim c.if-x-lo.branch [ then-x-lo w ↦ inl (w.if-x-lo.true, w.good-is) | else-x-lo w ↦ inr (w.if-x-lo.false, w.good-is) ]) in
+    let high : c.if-x-hi.good ≡ (c.if-x-lo.good && leb x a.hi) = flagged _ c.if-x-lo.good _ (λ w. lt-leb x a.hi w) (λ w. le-leb x a.hi w) (elim c.if-x-hi.branch [ then-x-hi w ↦ inl (w.if-x-hi.true, w.good-is) | else-x-hi w ↦ inr (w.if-x-hi.false, w.good-is) ]) in (
       omega arith,
       omega (arith, next_row k.j a.s),
       omega (arith, next_row k.j a.w),

@@ -1,19 +1,20 @@
 -- `reader::parts::take_codes`: what its goals need. Assumes nothing.
 use mathlib.Core.Path.{◌≡◌, refl, sym, ap, ◌∙◌}
+use mathlib.Core.Logic.{inl, inr}
 use mathlib.Core.Bool.{true, false, ◌&&◌}
 use mathlib.Core.List.{List, [], ◌∷◌}
 use Prim.Native.Nat.{ℕ, ◌<◌, ◌≤◌, ◌-◌, ◌+◌, ◌*◌, ◌/◌}
 use native.Mathlib.Omega.{arith}
 use lib.ListN.{length, get_or}
 use lib.Seq.{length-sets}
-use borrow.Author.Tests.{le-leb, lt-leb, not-true, not-false}
+use borrow.Author.Tests.{le-leb, lt-leb}
 use Rattle.laws.specs.Bits.{at, bits, run}
 use Rattle.laws.specs.Strips.{strips, every}
 use Rattle.laws.proofs.Elements.{by_test}
 use Rattle.format.specs.Format.{ones, digits, inside}
 use Rattle.format.proofs.Halves.{high_half}
 use Rattle.reader.proofs.Due.{line_fine, line_due}
-use Rattle.reader.proofs.Leaves.{put_down, left_up, strips_turn, every_turn}
+use Rattle.reader.proofs.Leaves.{flagged, strips_turn, every_turn}
 use Rattle.reader.proofs.ByColumns.{codes_taken, codes_due}
 use Rattle.reader.proofs.parts.take_codes.Goals.{else-b-k-lt240, else-not-here, then-b-k-lt240, then-not-here}
 use Rattle.reader.proofs.parts.take_codes.Goals as goal
@@ -62,8 +63,8 @@ loop-j-preserved c = let a = c.args in
     let o = c.take_digits-here.new.out in
     let place : (k.k + 12) * 8 - 23 * 4 ≡ 28 + k.j * 96 = omega (arith, k.invariant.1) in
     let piece : run (bits B) ((k.k + 12) * 8 - 23 * 4) 23 4 ≡ P k.j = ap (λ (q : ℕ). run (bits B) q 23 4) place in
-    let high : c.if-b-k-lt240.ones ≡ (k.ones && inside 15 15 (run (bits B) (24 + k.j * 96) 1 4)) = elim c.if-b-k-lt240.branch [ then-b-k-lt240 w ↦ w.ones-is ∙ put_down k.ones _ (other B k.k k.j x small refl k.invariant.1 w.if-b-k-lt240.true) | else-b-k-lt240 w ↦ w.ones-is ∙ left_up k.ones _ (same B k.k k.j x small refl k.invariant.1 w.if-b-k-lt240.false) ] in
-    let low : c.if-not-here.good ≡ (k.good && c.take_digits-here.result) = elim c.if-not-here.branch [ then-not-here w ↦ w.good-is ∙ put_down k.good _ (w.if-not-here.true) | else-not-here w ↦ w.good-is ∙ left_up k.good _ (w.if-not-here.false) ] in (
+    let high : c.if-b-k-lt240.ones ≡ (k.ones && inside 15 15 (run (bits B) (24 + k.j * 96) 1 4)) = flagged _ k.ones _ (λ w. other B k.k k.j x small refl k.invariant.1 w) (λ w. same B k.k k.j x small refl k.invariant.1 w) (elim c.if-b-k-lt240.branch [ then-b-k-lt240 w ↦ inl (w.if-b-k-lt240.true, w.ones-is) | else-b-k-lt240 w ↦ inr (w.if-b-k-lt240.false, w.ones-is) ]) in
+    let low : c.if-not-here.good ≡ (k.good && c.take_digits-here.result) = flagged _ k.good _ (λ w. w) (λ w. w) (elim c.if-not-here.branch [ then-not-here w ↦ inl (w.if-not-here.true, w.good-is) | else-not-here w ↦ inr (w.if-not-here.false, w.good-is) ]) in (
       omega arith,
       omega (arith, k.invariant.1),
       omega (arith, k.invariant.2),

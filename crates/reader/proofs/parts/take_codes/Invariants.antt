@@ -4,7 +4,7 @@ use Prim.Native.Nat.{ℕ, ◌≤◌, ◌-◌, ◌+◌, ◌*◌}
 use lib.ListN.{length}
 use Rattle.laws.specs.Bits.{bits, run}
 use Rattle.laws.specs.Strips.{strips, every}
-use Rattle.format.specs.Format.{ones, inside}
+use Rattle.format.specs.Format.{inside}
 use Rattle.reader.proofs.parts.take_codes.Given as goal
 
 abbrev pub invariant-loop-j : goal.invariant-loop-j

@@ -8,7 +8,6 @@ use Rattle.sister.specs.Layout.{fields_fine}
 use Rattle.sister.proofs.Found.{places_in}
 use Rattle.sister.proofs.Rows.{first_24, first_25}
 use Rattle.sister.proofs.Says as says
-use mathlib.Core.Path.{ap}
 use mathlib.Core.Bool.{not}
 use Rattle.sister.proofs.judge.lines_answer.Goals as goal
 

@@ -5,7 +5,6 @@ use borrow.Author.Tests.{not-true, not-false}
 use Rattle.sister.specs.declared.parts.Layout.{Layout}
 use Rattle.sister.proofs.Put.{counted, reaches}
 use Rattle.sister.proofs.Says as says
-use mathlib.Core.Path.{ap}
 use mathlib.Core.Bool.{not}
 use Rattle.sister.proofs.judge.rest_answer.Goals as goal
 

@@ -1,6 +1,5 @@
 -- `stories::tales::open`: what its goals need. Assumes nothing.
 use mathlib.Core.Path.{sym, ◌∙◌}
-use borrow.Author.Tests.{not-true, not-false}
 use Rattle.stories.proofs.Texts.{held_steady, open_free, open_new, open_same, open_other}
 use Rattle.stories.proofs.tales.open.Goals as goal
 

@@ -1,6 +1,5 @@
 -- `stories::tales::repeats`: what its goals need. Assumes nothing.
 use mathlib.Core.Path.{sym, ◌∙◌}
-use borrow.Author.Tests.{not-true, not-false}
 use Rattle.laws.proofs.Cases.{and_no}
 use Rattle.stories.proofs.Texts.{held_steady, holds_not, holds_by}
 use Rattle.stories.proofs.tales.repeats.Goals as goal

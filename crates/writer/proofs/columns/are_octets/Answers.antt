@@ -3,7 +3,7 @@ use mathlib.Core.Bool.{false≢true}
 use Prim.Native.Nat.{◌+◌, ◌*◌, ◌/◌, ◌≤◌}
 use native.Mathlib.Nat.{le_trans, mul-le-mul_left}
 use native.Mathlib.Omega.{arith}
-use borrow.Author.Tests.{not-false, ltb-true}
+use borrow.Author.Tests.{ltb-true}
 use Rattle.writer.proofs.columns.are_octets.Goals as goal
 
 pub returns-then-not-free : goal.returns-then-not-free

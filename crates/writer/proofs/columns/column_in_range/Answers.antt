@@ -1,6 +1,5 @@
 -- `writer::columns::column_in_range`: what its goals need. Assumes nothing.
 use mathlib.Core.Path.{sym, ap, ◌∙◌}
-use mathlib.Core.Bool.{true}
 use Prim.Native.Nat.{ℕ, ◌+◌, ◌*◌}
 use native.Mathlib.Omega.{arith}
 use lib.ListN.{drop}
@@ -9,7 +8,6 @@ use Rattle.format.specs.Format.{inside}
 use Rattle.writer.specs.Puts.{value_of}
 use Rattle.writer.proofs.ByColumn.{every_start, every_turn, every_stop, every_end}
 use Rattle.writer.proofs.Beside.{laying_first, laying_turn, numbers_there}
-use mathlib.Core.Path.{ap}
 use mathlib.Core.Bool.{not}
 use Rattle.writer.proofs.columns.column_in_range.Goals as goal
 

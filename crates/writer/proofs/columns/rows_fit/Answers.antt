@@ -8,7 +8,6 @@ use Rattle.format.specs.Format.{octets, own}
 use Rattle.packet.specs.InCode.{lines_in}
 use Rattle.packet.proofs.Loops as laws
 use Rattle.writer.proofs.ByColumn.{left, left_first, left_turn, left_last, a_column}
-use mathlib.Core.Path.{ap}
 use mathlib.Core.Bool.{not}
 use Rattle.writer.proofs.columns.rows_fit.Goals as goal
 

@@ -9,7 +9,6 @@ use Rattle.format.specs.Format.{octets, own, fine, fill}
 use Rattle.packet.specs.InCode.{lines_in}
 use Rattle.packet.proofs.Loops as laws
 use Rattle.writer.proofs.Inside.{lines_turn, lines_done, one_fits}
-use mathlib.Core.Path.{ap}
 use mathlib.Core.Bool.{not}
 use Rattle.writer.proofs.fits.lines_fit.Goals as goal
 

@@ -6,8 +6,6 @@ use Rattle.packet.specs.Table.{kind_of, type_of}
 use Rattle.packet.specs.Content.{kind_for}
 use Rattle.packet.specs.Writing.{digits_lost}
 use Rattle.writer.proofs.Taken.{other_type_lem, body_lost_lem, digits_lost_lem, by_codes}
-use mathlib.Core.Path.{ap}
-use mathlib.Core.Bool.{not}
 use Rattle.writer.proofs.refusals.nothing_lost.Goals as goal
 
 pub returns-then-named-type_of : goal.returns-then-named-type_of

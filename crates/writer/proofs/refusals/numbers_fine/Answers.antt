@@ -4,8 +4,6 @@ use mathlib.Core.Logic.{inr}
 use mathlib.Core.Bool.{not}
 use borrow.Author.Tests.{not-true, not-false}
 use Rattle.laws.proofs.Cases.{and_yes, and_no}
-use mathlib.Core.Path.{ap}
-use mathlib.Core.Bool.{not}
 use Rattle.writer.proofs.refusals.numbers_fine.Goals as goal
 
 pub returns-then-not-own_fine : goal.returns-then-not-own_fine
