@@ -66,7 +66,6 @@ total_small p e h =
 
 -- ---- which place, by the index that the code found
 pub all_held : (xs : List Place) → length xs ≤ index_of is_free xs → all is_held xs ≡ true
-unfolding all
 all_held [] h = refl
 all_held (x ∷ xs) h =
     by_test (is_free x)
@@ -74,7 +73,6 @@ all_held (x ∷ xs) h =
     (λ t. let w = index_no is_free x xs t in and_yes _ (not-false x.held t) ∙ all_held xs (omega arith))
 
 pub some_free : (xs : List Place) → index_of is_free xs < length xs → all is_held xs ≡ false
-unfolding all
 some_free [] h = absurd (not-suc-le-zero h)
 some_free (x ∷ xs) h =
     by_test (is_free x)

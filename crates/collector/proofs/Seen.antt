@@ -38,7 +38,6 @@ place_back p e =
     (number_of_marks 63 p.marks (ltb-true _ _ e))
 
 places_back : (ps : List Holding) → all top_clear ps ≡ true → map from_place (map as_place ps) ≡ ps
-unfolding all
 places_back [] e = refl
 places_back (p ∷ ps) e = ap₂ (λ (q : Holding) (qs : List Holding). q ∷ qs) (place_back p (all_head top_clear p ps e)) (places_back ps (all_tail top_clear p ps e))
 
@@ -58,7 +57,6 @@ place_there p e =
     (ap (λ (n : ℕ). marks_from n (number_of p.marks)) (sym (eqb-true _ _ e)) ∙ marks_of_number p.marks)
 
 places_there : (ps : List Place) → all sixty_three ps ≡ true → map as_place (map from_place ps) ≡ ps
-unfolding all
 places_there [] e = refl
 places_there (p ∷ ps) e = ap₂ (λ (q : Place) (qs : List Place). q ∷ qs) (place_there p (all_head sixty_three p ps e)) (places_there ps (all_tail sixty_three p ps e))
 
@@ -67,7 +65,6 @@ collector_there c e = ap (λ (ps : List Place). record { places = ps }) (places_
 
 -- what comes back of 63 marks has its top bit clear
 pub from_clear : (ps : List Place) → all sixty_three ps ≡ true → all top_clear (map from_place ps) ≡ true
-unfolding all
 from_clear [] e = refl
 from_clear (p ∷ ps) e =
     all_cons top_clear (from_place p) (map from_place ps)
@@ -76,7 +73,6 @@ from_clear (p ∷ ps) e =
 
 -- a record seen has 63 marks in each place
 pub seen_63 : (ps : List Holding) → all sixty_three (map as_place ps) ≡ true
-unfolding all
 seen_63 [] = refl
 seen_63 (p ∷ ps) = all_cons sixty_three (as_place p) (map as_place ps) (eq-eqb _ _ (length_marks 63 p.marks)) (seen_63 ps)
 
@@ -96,7 +92,7 @@ taken_there x p e = (ap as_place e, ap top_clear e)
 
 -- the record that holds nothing
 pub empty_seen : (as_collector no_holdings ≡ nothing) × (tops_clear no_holdings ≡ true)
-unfolding marks_from number_of all
+unfolding marks_from number_of
 empty_seen = (refl, refl)
 
 -- ---- the calls, by what the code found

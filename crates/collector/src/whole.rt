@@ -12,14 +12,7 @@ fn wide(x: u8) -> u16
 fn all_fill(b: &[u8]) -> bool
     ensures { result ≡ all is_fill b.now }
 {
-    let mut i = 0;
-    while i < b.len() {
-        if b[i] != 0xFF {
-            return false;
-        }
-        i += 1;
-    }
-    true
+    b.iter().all(|x| *x == 0xFF)
 }
 
 pub(crate) fn is_whole(b: &[u8]) -> bool

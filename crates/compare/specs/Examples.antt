@@ -48,9 +48,9 @@ nothing = refl
 
 -- a wrong record of left comes before a torn right shelf; then that; then memory of no byte
 pub answers : compare_answer (replicate 256 0) (0 ∷ []) [] ∷ compare_answer ours (0 ∷ []) [] ∷ compare_answer ours theirs [] ∷ [] ≡ 35 ∷ 34 ∷ 10 ∷ []
-unfolding compare_answer shelf_answer shelf_cases first whole all_right every.below right reserved packet_size at bits_of spread all record_of
+unfolding compare_answer shelf_answer shelf_cases first whole all_right every.below right reserved packet_size at bits_of spread record_of
 answers = refl
 
 pub sides : right_refused (replicate 256 0) (0 ∷ []) ∷ right_refused ours (0 ∷ []) ∷ [] ≡ false ∷ true ∷ []
-unfolding right_refused shelf_answer shelf_cases first whole all_right every.below right reserved packet_size at bits_of spread all record_of
+unfolding right_refused shelf_answer shelf_cases first whole all_right every.below right reserved packet_size at bits_of spread record_of
 sides = refl

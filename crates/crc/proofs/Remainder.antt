@@ -49,7 +49,7 @@ places bs b p =
 
 -- the register over all bytes
 register_is : (bs : List ℕ) (m p : ℕ) → 16 ≤ m → Under 256 bs → taken_all (remainder 16 generator m p) bs ≡ remainder 16 generator (m + 8 * length bs) (p * 2 ^ (8 * length bs) ⊕ message bs * 2 ^ 16)
-unfolding taken_all message
+unfolding message
 register_is [] m p hm u = sym (ap₂ (remainder 16 generator) (add-zero m) (xor_zero_r (p * 1) ∙ mul-one p))
 register_is (b ∷ bs) m p hm u =
     let n : m + 8 + 8 * length bs ≡ m + 8 * suc (length bs) = omega arith in

@@ -1,6 +1,7 @@
 -- The packet check (paper 01, "Collector"; 000, table 22 no. 10): CRC-16 CCITT-FALSE, a register that starts at all ones,
 -- the highest bit first, nothing added at the end.
 use Rattle.std.specs.Prelude.{List, [], ◌∷◌, ℕ, ◌+◌, ◌*◌, ◌^◌, length}
+use Rattle.std.specs.List.{fold}
 use Rattle.laws.specs.Poly.{◌⊕◌, remainder}
 
 -- x^16 + x^12 + x^5 + 1
@@ -16,9 +17,8 @@ unfoldable pub taken : ℕ → ℕ → ℕ
 taken register byte = times_byte (register ⊕ byte * 2 ^ 8)
 
 -- and with each of a list
-unfoldable pub taken_all : ℕ → List ℕ → ℕ
-taken_all register [] = register
-taken_all register (b ∷ bs) = taken_all (taken register b) bs
+abbrev pub taken_all : ℕ → List ℕ → ℕ
+taken_all = fold taken
 
 -- the check of a packet's bytes; of no byte it is the start value
 unfoldable pub crc16 : List ℕ → ℕ

@@ -25,11 +25,7 @@ fn taken_in(register: u16, byte: u8) -> u16
 pub fn packet_check(bytes: &[u8]) -> u16
     ensures { result ≡ crc16 bytes.now }
 {
-    let mut register: u16 = 0xFFFF;
-    let mut i = 0;
-    while i < bytes.len() {
-        register = taken_in(register, bytes[i]);
-        i += 1;
-    }
-    register
+    bytes
+        .iter()
+        .fold(0xFFFF, |register, byte| taken_in(register, *byte))
 }

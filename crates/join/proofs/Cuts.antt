@@ -52,15 +52,12 @@ onward_ten b m i e = ap (λ (k : ℕ). cut (10 - k) (drop i b)) e ∙ cut_zero (
 
 -- ---- all parts
 pub parts_next : (p : List ℕ) (ps : List (List ℕ)) → is_part p ≡ true → all is_part (p ∷ ps) ≡ all is_part ps
-unfolding all
 parts_next p ps e = and_yes (all is_part ps) e
 
 pub parts_stop : (p : List ℕ) (ps : List (List ℕ)) → is_part p ≡ false → all is_part (p ∷ ps) ≡ false
-unfolding all
 parts_stop p ps e = and_no (all is_part ps) e
 
 pub parts_end : all is_part [] ≡ true
-unfolding all
 parts_end = refl
 
 pub head_end : (h : List ℕ) → with_head h [] ≡ []

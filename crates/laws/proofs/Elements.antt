@@ -39,15 +39,12 @@ copy_next b o i hb ho =
 -- ---- every element
 module _ {A : Type 0} (f : A → Bool) where
   pub all_cons : (x : A) (xs : List A) → f x ≡ true → all f xs ≡ true → all f (x ∷ xs) ≡ true
-  unfolding all
   all_cons x xs e h = and_yes (all f xs) e ∙ h
 
   pub all_head : (x : A) (xs : List A) → all f (x ∷ xs) ≡ true → f x ≡ true
-  unfolding all
   all_head x xs h = and_left (f x) (all f xs) h
 
   pub all_tail : (x : A) (xs : List A) → all f (x ∷ xs) ≡ true → all f xs ≡ true
-  unfolding all
   all_tail x xs h = and_right (f x) (all f xs) h
 
   pub all_at : (xs : List A) (i : ℕ) (d : A) → all f xs ≡ true → i < length xs → f (get_or xs i d) ≡ true
@@ -64,13 +61,11 @@ module _ {A : Type 0} (f : A → Bool) where
 module _ {A : Type 0} (f g : A → Bool) where
   -- what follows at each element
   pub all_map : (xs : List A) → ((a : A) → f a ≡ true → g a ≡ true) → all f xs ≡ true → all g xs ≡ true
-  unfolding all
   all_map [] w e = refl
   all_map (x ∷ xs) w e = all_cons g x xs (w x (all_head f x xs e)) (all_map xs w (all_tail f x xs e))
 
 module _ {A : Type 0} (f g h : A → Bool) where
   pub all_both : (xs : List A) → ((a : A) → f a ≡ true → g a ≡ true → h a ≡ true) → all f xs ≡ true → all g xs ≡ true → all h xs ≡ true
-  unfolding all
   all_both [] w e k = refl
   all_both (x ∷ xs) w e k =
       all_cons h x xs (w x (all_head f x xs e) (all_head g x xs k)) (all_both xs w (all_tail f x xs e) (all_tail g x xs k))

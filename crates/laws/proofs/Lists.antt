@@ -13,12 +13,10 @@ use Rattle.laws.specs.Lists.{same}
 use Rattle.laws.proofs.Cases.{and_yes, and_both}
 
 pub same_self : (l : List ℕ) → same l l ≡ true
-unfolding same
 same_self [] = refl
 same_self (x ∷ l) = and_yes (same l l) (eq-eqb x x refl) ∙ same_self l
 
 pub same_eq : (a b : List ℕ) → same a b ≡ true → a ≡ b
-unfolding same
 same_eq [] [] e = refl
 same_eq [] (y ∷ ys) e = absurd (false≢true e)
 same_eq (x ∷ xs) [] e = absurd (false≢true e)
@@ -27,19 +25,15 @@ same_eq (x ∷ xs) (y ∷ ys) e =
     ap₂ (λ (n : ℕ) (l : List ℕ). n ∷ l) (eqb-true x y q.0) (same_eq xs ys q.1)
 
 pub same_next : (a b : List ℕ) (i : ℕ) → i < length a → i < length b → get_or a i 0 ≡ get_or b i 0 → same (drop i a) (drop i b) ≡ same (drop (i + 1) a) (drop (i + 1) b)
-unfolding same
 same_next a b i h g e = rw (add-one i, drop-cons a i 0 h, drop-cons b i 0 g, eq-eqb (get_or a i 0) (get_or b i 0) e)
 
 pub same_stop : (a b : List ℕ) (i : ℕ) → i < length a → i < length b → (get_or a i 0 ≡ get_or b i 0 → ⊥) → same (drop i a) (drop i b) ≡ false
-unfolding same
 same_stop a b i h g e = rw (drop-cons a i 0 h, drop-cons b i 0 g, ne_eqb (get_or a i 0) (get_or b i 0) e)
 
 pub same_end : (a b : List ℕ) (i : ℕ) → length a ≡ length b → length a ≤ i → same (drop i a) (drop i b) ≡ true
-unfolding same
 same_end a b i e h = rw (drop_of_length-le a {i = i} h, drop_of_length-le b {i = i} (omega arith))
 
 pub same_long : (a b : List ℕ) → (length a ≡ length b → ⊥) → same a b ≡ false
-unfolding same
 same_long [] [] h = absurd (h refl)
 same_long [] (y ∷ b) h = refl
 same_long (x ∷ a) [] h = refl

@@ -11,11 +11,9 @@ use Rattle.laws.specs.Scan.{all, index_of}
 module _ {A : Type 0} (f : A → Bool) (xs : List A) (d : A) where
   -- what a turn of a loop over xs knows: the element at i passed, or did not
   pub all_next : (i : ℕ) → i < length xs → f (get_or xs i d) ≡ true → all f (drop i xs) ≡ all f (drop (i + 1) xs)
-  unfolding all
   all_next i h e = rw (drop-cons xs i d, e, add-one)
 
   pub all_stop : (i : ℕ) → i < length xs → f (get_or xs i d) ≡ false → all f (drop i xs) ≡ false
-  unfolding all
   all_stop i h e = rw (drop-cons xs i d, e)
 
   pub index_next : (i : ℕ) → i < length xs → f (get_or xs i d) ≡ false → index_of f (drop i xs) ≡ index_of f (drop (i + 1) xs) + 1
@@ -28,7 +26,6 @@ module _ {A : Type 0} (f : A → Bool) (xs : List A) (d : A) where
 
 module _ {A : Type 0} (f : A → Bool) (xs : List A) where
   pub all_end : (i : ℕ) → i ≡ length xs → all f (drop i xs) ≡ true
-  unfolding all
   all_end i e = rw (e, drop-length)
 
   pub index_end : (i : ℕ) → i ≡ length xs → index_of f (drop i xs) ≡ 0

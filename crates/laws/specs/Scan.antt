@@ -1,11 +1,11 @@
 -- A test of every element of a list, and the place of the first element that passes a test. No rule of a paper stands here.
-use Rattle.std.specs.Prelude.{List, [], ◌∷◌, Bool, true, cond, ◌&&◌, ℕ, ◌+◌}
+use Rattle.std.specs.Prelude.{List, [], ◌∷◌, Bool, cond, ℕ, ◌+◌}
+use Rattle.std.specs.List.{list_all}
 
 module _ {A : Type 0} where
   -- every element passes
-  unfoldable pub all : (A → Bool) → List A → Bool
-  all f [] = true
-  all f (x ∷ xs) = f x && all f xs
+  abbrev pub all : (A → Bool) → List A → Bool
+  all = list_all
 
   -- the index of the first that passes, or the length where none does
   unfoldable pub index_of : (A → Bool) → List A → ℕ

@@ -9,7 +9,7 @@ ghost use Rattle.octets.specs.Parts.{part_of};
 pub fn byte(b: &[u8], i: usize) -> u8
     ensures { result ≡ get_or b.now i 0 }
 {
-    if i < b.len() { b[i] } else { 0 }
+    b.get(i).copied().unwrap_or(0)
 }
 
 // k bytes from a byte on; as many as there are.
@@ -32,16 +32,5 @@ pub fn part(b: &[u8], from: usize, k: usize) -> &[u8]
 pub fn same_bytes(a: &[u8], b: &[u8]) -> bool
     ensures { result ≡ same a.now b.now }
 {
-    let n = a.len();
-    if b.len() != n {
-        return false;
-    }
-    let mut i: usize = 0;
-    while i < n {
-        if a[i] != b[i] {
-            return false;
-        }
-        i += 1;
-    }
-    true
+    a == b
 }

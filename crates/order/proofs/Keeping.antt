@@ -104,7 +104,6 @@ apart_sym r q =
 
 -- where no place is of a pair, each is apart from a place of that pair
 missing_apart : (q : Place) (l v : ℕ) (xs : List Place) → q.level ≡ l → q.version ≡ v → length xs ≤ index_of (is_pair l v) xs → all (pairs_apart q) xs ≡ true
-unfolding all
 missing_apart q l v [] el ev h = refl
 missing_apart q l v (r ∷ rs) el ev h =
     by_test (is_pair l v r)
@@ -225,7 +224,7 @@ module _ (c : Collector) (x : Piece) (g : Good c) (b : Bounds x.heading) where
       by_outcome (finds_none h k w) = subst (λ (o : Offered). Good o.collector) w g
 
 pub empty_good : Good nothing
-unfolding all good fair
+unfolding good fair
 empty_good = record { count = refl; shape = refl; order = refl }
 
 pub offer_good : (c : Collector) (f : List ℕ) → Good c → Good (offered c f).collector
@@ -242,7 +241,6 @@ unfolding freed
 freed_is p = refl
 
 free_apart : (q : Place) (xs : List Place) → q.held ≡ false → all (pairs_apart q) xs ≡ true
-unfolding all
 free_apart q [] h = refl
 free_apart q (r ∷ rs) h = all_cons (pairs_apart q) r rs (ap not (and_no _ h)) (free_apart q rs h)
 

@@ -107,7 +107,6 @@ unfoldable pub Within : List Pair → Collector → Type 0
 Within qs c = all (ok_among qs) c.places ≡ true
 
 pub all_held_among : (qs : List Pair) (xs : List Place) → length xs ≤ index_of is_free xs → all (ok_among qs) xs ≡ true → all (held_among qs) xs ≡ true
-unfolding all
 all_held_among qs [] n e = refl
 all_held_among qs (r ∷ rs) n e =
     by_test (is_free r)

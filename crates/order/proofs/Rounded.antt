@@ -44,7 +44,7 @@ each_of P a b c f m =
     (Memᴰ.cases_cons m)
 
 a_message : Message 5 3 three message
-unfolding below first at bits_of spread reduce remainder times_byte taken taken_all crc16 fixed reserved outside refusals heading_fields heading_of accepted packet_size sized checked filled passes all pieces contradict first_of full joined_to
+unfolding below first at bits_of spread reduce remainder times_byte taken crc16 fixed reserved outside refusals heading_fields heading_of accepted packet_size sized checked filled passes pieces contradict first_of full joined_to
 a_message =
     record {
       accept = each_of (λ f. accepted f ≡ true) refl refl refl;
@@ -65,15 +65,15 @@ abbrev half : Collector
 half = offer_all nothing (unlike ∷ [])
 
 half_held : held_place 5 3 half.places ≡ some (place_at half 0)
-unfolding all below index_of first at bits_of spread fixed reserved outside refusals heading_fields astray marks_below complete fair contradicts again taken_for stored whole spoiled good index_of_pair index_of_free spot after take_cases keeps offer_cases offered offer_all held_place
+unfolding below index_of first at bits_of spread fixed reserved outside refusals heading_fields astray marks_below complete fair contradicts again taken_for stored whole spoiled good index_of_pair index_of_free spot after take_cases keeps offer_cases offered offer_all held_place
 half_held = refl
 
 half_open : whole (place_at half 0) ≡ false
-unfolding all below index_of first at bits_of spread fixed reserved outside refusals heading_fields astray marks_below complete fair contradicts again taken_for stored whole spoiled good index_of_pair index_of_free spot after take_cases keeps offer_cases offered offer_all
+unfolding below index_of first at bits_of spread fixed reserved outside refusals heading_fields astray marks_below complete fair contradicts again taken_for stored whole spoiled good index_of_pair index_of_free spot after take_cases keeps offer_cases offered offer_all
 half_open = refl
 
 half_unmixed : Unmixed half 5 3 three message
-unfolding all below index_of first at bits_of spread reduce remainder times_byte taken taken_all crc16 fixed reserved outside refusals heading_fields heading_of accepted packet_size sized checked filled passes astray marks_below complete fair contradicts again taken_for stored whole spoiled good index_of_pair index_of_free spot after take_cases keeps offer_cases offered offer_all held_place holds four_at pieces first_of joined_to
+unfolding below index_of first at bits_of spread reduce remainder times_byte taken crc16 fixed reserved outside refusals heading_fields heading_of accepted packet_size sized checked filled passes astray marks_below complete fair contradicts again taken_for stored whole spoiled good index_of_pair index_of_free spot after take_cases keeps offer_cases offered offer_all held_place holds four_at pieces first_of joined_to
 half_unmixed t e = absurd (false≢true e)
 
 -- The message sent twice through after an old half of one frame.

@@ -167,7 +167,7 @@ unfolding total_held held_place
 empty_total l v = refl
 
 empty_within : (qs : List Pair) → Within qs nothing
-unfolding Within all
+unfolding Within
 empty_within qs = refl
 
 -- frames that can all be true, of four pairs at most

@@ -48,7 +48,6 @@ abbrev apart : ℕ → List ℕ → Bool
 apart t ks = all (λ (k : ℕ). not (eqb t k)) ks
 
 none_apart : (ks : List ℕ) (t : ℕ) → NoneOf ks t → apart t ks ≡ true
-unfolding all
 none_apart [] t o = refl
 none_apart (k ∷ ks) t o = and_yes (apart t ks) (ap not (ne_eqb t k o.1)) ∙ none_apart ks t o.0
 
@@ -57,7 +56,7 @@ abbrev is_raw : ℕ → Bool
 is_raw t = leb t 8 || leb 21 t
 
 all_ranged : below 25 (λ (n : ℕ). not (apart n keys) || eqb (type_of (kind_of n)) (cond (is_raw n) 4 31)) ≡ true
-unfolding below all kind_of
+unfolding below kind_of
 all_ranged = refl
 
 module _ (t : ℕ) (o : NoneOf keys t) where

@@ -41,7 +41,7 @@ abbrev passed : Kind → Bool
 passed f = all (λ (b : Bool). b) (tests f)
 
 all_pass : all passed kinds ≡ true
-unfolding all size need columns own_lines lines_for
+unfolding size need columns own_lines lines_for
 all_pass = refl
 
 pub record Columned (f : Kind) : Type 0 where

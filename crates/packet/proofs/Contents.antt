@@ -1,6 +1,6 @@
 -- Contents and their numbers, a line a type; and what is repeated in each kind. Assumes nothing.
 use mathlib.Core.Path.{◌≡◌, refl, sym, ap, ◌∙◌, subst}
-use mathlib.Core.Bool.{true, false, not, cond, ◌&&◌, true≢false}
+use mathlib.Core.Bool.{Bool, true, false, not, cond, ◌&&◌, true≢false}
 use mathlib.Core.List.{List, [], ◌∷◌, ◌++◌}
 use Prim.Native.Nat.{ℕ, zero, suc, ◌+◌, ◌%◌, ◌<◌, ◌≤◌}
 use native.Mathlib.Nat.{zero-mod}
@@ -69,22 +69,30 @@ pub numbers_back : (f : Kind) (xs : List ℕ) (k : ℕ) → is_unknown f ≡ fal
 numbers_back f xs k h l = ap (λ (p : Parts). p.numbers) (parts_back f xs k h) ∙ listed_take (numbers_in f) 0 xs (omega arith)
 
 -- it is of a known kind
-all_known : (xs : List ℕ) (k : ℕ) → all (λ (f : Kind). not (is_unknown (kind_for (content_of f xs k)))) kinds ≡ true
-unfolding all
+known_back : List ℕ → ℕ → Kind → Bool
+known_back xs k f = not (is_unknown (kind_for (content_of f xs k)))
+
+all_known : (xs : List ℕ) (k : ℕ) → all (known_back xs k) kinds ≡ true
+unfolding known_back
 all_known xs k = refl
 
 pub content_known : (c : Content) → (row_of (kind_for c)).counting ≡ counting.Unknown → ⊥
+unfolding known_back
 content_known c h =
-    let g = subst (λ (d : Content). not (is_unknown (kind_for d)) ≡ true) (content_back c [] []) (each_kind _ (all_known (numbers_of c ++ []) (count_for c [])) (kind_for c)) in
+    let g = subst (λ (d : Content). not (is_unknown (kind_for d)) ≡ true) (content_back c [] []) (each_kind (known_back (numbers_of c ++ []) (count_for c [])) (all_known (numbers_of c ++ []) (count_for c [])) (kind_for c)) in
     absurd (true≢false (sym (ap unknown_by h) ∙ not-true (is_unknown (kind_for c)) g))
 
 -- it has as many numbers as its kind
-all_long : (xs : List ℕ) (k : ℕ) → all (λ (f : Kind). eqb (length (numbers_of (content_of f xs k))) (numbers_in f)) kinds ≡ true
-unfolding all
+as_many : List ℕ → ℕ → Kind → Bool
+as_many xs k f = eqb (length (numbers_of (content_of f xs k))) (numbers_in f)
+
+all_long : (xs : List ℕ) (k : ℕ) → all (as_many xs k) kinds ≡ true
+unfolding as_many
 all_long xs k = refl
 
 pub length_back : (f : Kind) (xs : List ℕ) (k : ℕ) → length (numbers_of (content_of f xs k)) ≡ numbers_in f
-length_back f xs k = eqb-true _ _ (each_kind _ (all_long xs k) f)
+unfolding as_many
+length_back f xs k = eqb-true _ _ (each_kind (as_many xs k) (all_long xs k) f)
 
 pub numbers_long : (c : Content) → length (numbers_of c) ≡ numbers_in (kind_for c)
 numbers_long c = ap (λ (d : Content). length (numbers_of d)) (sym (content_back c [] [])) ∙ length_back (kind_for c) (numbers_of c ++ []) (count_for c [])
@@ -109,15 +117,20 @@ repeated kind.Raw = octet refl refl
 repeated kind.Unknown = nothing refl refl (λ k m. refl)
 
 -- only frequencies have entries, and only raw contents are counted so
-one_type : all (λ (f : Kind). cond (has_entries f) (eqb (type_of f) 0) true && cond (raw_by (row_of f).counting) (eqb (type_of f) 4) true) kinds ≡ true
-unfolding all
+of_its_type : Kind → Bool
+of_its_type f = cond (has_entries f) (eqb (type_of f) 0) true && cond (raw_by (row_of f).counting) (eqb (type_of f) 4) true
+
+one_type : all of_its_type kinds ≡ true
+unfolding of_its_type
 one_type = refl
 
 pub entries_only : (f : Kind) → has_entries f ≡ true → f ≡ kind.Frequencies
-entries_only f h = same_kind f kind.Frequencies (eqb-true (type_of f) 0 (sym (if_yes (eqb (type_of f) 0) true h) ∙ and_left _ _ (each_kind _ one_type f)))
+unfolding of_its_type
+entries_only f h = same_kind f kind.Frequencies (eqb-true (type_of f) 0 (sym (if_yes (eqb (type_of f) 0) true h) ∙ and_left _ _ (each_kind of_its_type one_type f)))
 
 pub raw_only : (f : Kind) → (row_of f).counting ≡ counting.Raw → f ≡ kind.Raw
-raw_only f h = same_kind f kind.Raw (eqb-true (type_of f) 4 (sym (if_yes (eqb (type_of f) 4) true (ap raw_by h)) ∙ and_right (cond (has_entries f) (eqb (type_of f) 0) true) _ (each_kind _ one_type f)))
+unfolding of_its_type
+raw_only f h = same_kind f kind.Raw (eqb-true (type_of f) 4 (sym (if_yes (eqb (type_of f) 4) true (ap raw_by h)) ∙ and_right (cond (has_entries f) (eqb (type_of f) 0) true) _ (each_kind of_its_type one_type f)))
 
 -- ---- in code: a content laid out, and numbers cut to the room of their fields
 pub laid_is : (c : Content) (r : Laid) (xs : List ℕ) → r ≡ record { kind = kind_for c; n = length (numbers_of c); numbers = xs; count = (parts_of c).count } → xs ≡ padded 6 (numbers_of c) → r ≡ laid_of c

@@ -56,7 +56,7 @@ abbrev passed : Kind → Bool
 passed f = all (λ (b : Bool). b) (tests f)
 
 all_pass : all passed kinds ≡ true
-unfolding all size need part_at
+unfolding size need part_at
 all_pass = refl
 
 pub record Good (f : Kind) : Type 0 where

@@ -17,7 +17,7 @@ use Rattle.format.proofs.Tables.{fine_append, all_times, unmet_fine}
 
 -- every line is one that the loops take, and so is what stands past the last
 every_sound : all sound every_line ≡ true
-unfolding all every_line lines_of_each
+unfolding every_line lines_of_each
 every_sound = refl
 
 pub every_few : length every_line ≤ 1000

@@ -56,7 +56,7 @@ abbrev passed : Kind → Bool
 passed f = fits (row_at f).before && (fits (row_at f).each && fits (row_at f).after)
 
 all_pass : all passed kinds ≡ true
-unfolding all row_at lines_up_to every_line lines_of_each
+unfolding row_at lines_up_to every_line lines_of_each
 all_pass = refl
 
 stands_by : (ts : Lines) → fits ts ≡ true → Stands ts

@@ -85,7 +85,7 @@ sixteen_full c f e =
 
 -- and where room was made one is not
 room_free : (c : Holdings) → all is_held (as_collector (room_made c)).places ≡ false
-unfolding room_made all
+unfolding room_made
 room_free c = behind (drop 1 c.places)
   where
     behind : (ps : List Holding) → all is_held (map as_place (ps ++ (made_free (get_or c.places 0 blank_holding) ∷ []))) ≡ false

@@ -27,7 +27,6 @@ pub data AllShaped : List Tale → Type 0 where
   and_tale : {p : Tale} {ps : List Tale} → StandsFor p → AllShaped ps → AllShaped (p ∷ ps)
 
 pub all_fair : {ps : List Tale} → AllShaped ps → all fair ps ≡ true
-unfolding all
 all_fair no_tale = refl
 all_fair (and_tale {p} {ps} s r) = all_cons fair p ps (shaped_fair p s) (all_fair r)
 
@@ -71,7 +70,7 @@ pub record Kept (bs : List (List ℕ)) (ps : List Tale) : Type 0 where
   pub texts : (x : Part) (k : ℕ) → k < 9 → held_text (find (is_story x) ps) k ≡ given bs x k
 
 pub untold_shaped : StandsFor untold
-unfolding zeros all
+unfolding zeros
 untold_shaped = record { nine = refl; room = length-replicate {A = ℕ} 1341 0; short = refl; low = λ h. absurd (false≢true h); high = λ h. absurd (false≢true h) }
 
 pub kept_none : Kept [] (replicate 4 untold)

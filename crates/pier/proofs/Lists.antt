@@ -136,7 +136,7 @@ free_tail p ps h =
     (λ t. sym (if_no _ _ t) ∙ h)
 
 free_behind : (ps : List Tale) (q : Tale) → q.held ≡ true → free_first ps ≡ true → free_first (ps ++ (q ∷ [])) ≡ true
-unfolding free_first all
+unfolding free_first
 free_behind [] q t h = if_yes _ _ t
 free_behind (p ∷ ps) q t h =
     by_test p.held

@@ -156,7 +156,7 @@ pub record Idle (c : Holdings) : Type 0 where
   pub nothing_held : all is_free (as_collector c).places ≡ true
 
 none_held : (ps : List Place) → ((i j : ℕ) → held_place i j ps ≡ none) → all is_free ps ≡ true
-unfolding all held_place
+unfolding held_place
 none_held [] e = refl
 none_held (p ∷ ps) e =
     by_test p.held

@@ -68,7 +68,7 @@ short_at p s k h = leb-true _ _ (all_at (λ (n : ℕ). leb n 153) p.lengths k 0 
 
 -- a place taken for a story
 pub taken_shaped : (x : Part) → 1 ≤ x.total → x.total ≤ 9 → StandsFor (taken_for x)
-unfolding zeros all
+unfolding zeros
 taken_shaped x low high = record { nine = refl; room = length-replicate {A = ℕ} 1341 0; short = refl; low = λ t. low; high = λ t. high }
 
 pub taken_none : (x : Part) (k : ℕ) → k < 9 → is_heard (taken_for x) k ≡ false

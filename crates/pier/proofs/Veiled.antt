@@ -57,7 +57,6 @@ apart_same p q =
 -- ---- all places
 module _ (f g : Place → Bool) (e : (p : Place) → f (veil p) ≡ g p) where
   all_same : (ps : List Place) → all f (map veil ps) ≡ all g ps
-  unfolding all
   all_same [] = refl
   all_same (p ∷ ps) = ap₂ ◌&&◌ (e p) (all_same ps)
 

@@ -192,7 +192,6 @@ unfolding parted
 some_parts s text = some_part (room_with s.codes) (room_with s.codes) (characters text)
 
 idle_nothing : Idle no_holdings
-unfolding all
 idle_nothing =
     record {
       right = record { clear = empty_seen.1; good = subst Good (sym empty_seen.0) empty_good };

@@ -64,7 +64,6 @@ pad_whole (x ∷ xs) k =
     ap (pad_from (x ∷ xs) 0) z ∙ ap (λ (l : List ℕ). x ∷ l) (shift x xs (length xs + k) 0 ∙ pad_whole xs k)
 
 fills : (k : ℕ) → all is_fill (ones k) ≡ true
-unfolding all
 fills zero = refl
 fills (suc k) = fills k
 

@@ -16,5 +16,5 @@ use Rattle.packet.specs.Writing.{front_for, back_for, body_for, size_for, table_
 use Rattle.promises.specs.Pier.{holds, examples}
 
 pub pier : (lent a b c d : ℕ) → all (holds lent a b c d) examples ≡ true
-unfolding all holds examples check_word syndrome remainder reduce at bits_of run spread first fixed reserved outside refusals heading_fields heading_of heading_bits heading_words heading_bytes frames_for times size need encode fill inside fine kind_of content_lines packet leap days_in front_for back_for body_for size_for table_for numbers_for bytes_for count_bad digit_bad not_taken written_answer written packet_output
+unfolding holds examples check_word syndrome remainder reduce at bits_of run spread first fixed reserved outside refusals heading_fields heading_of heading_bits heading_words heading_bytes frames_for times size need encode fill inside fine kind_of content_lines packet leap days_in front_for back_for body_for size_for table_for numbers_for bytes_for count_bad digit_bad not_taken written_answer written packet_output
 pier lent a b c d = refl

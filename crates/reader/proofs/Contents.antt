@@ -38,7 +38,7 @@ abbrev edged : Kind → Bool
 edged f = eqb (part_at (row_of f) % 8) 0 && (has_entries f || all plain (row_of f).each)
 
 all_edged : all edged kinds ≡ true
-unfolding all part_at size
+unfolding part_at size
 all_edged = refl
 
 edge : (f : Kind) → part_at (row_of f) % 8 ≡ 0

@@ -106,7 +106,7 @@ module _ (t : Line) (x : Bool) where
 
 -- every line of the table asks so, and so does what stands past the last
 every_asks : all asks every_line ≡ true
-unfolding all every_line lines_of_each
+unfolding every_line lines_of_each
 every_asks = refl
 
 pub asks_at : (i : ℕ) → asks (get_or every_line i (octets 0)) ≡ true
@@ -132,7 +132,6 @@ module _ (T : List Line) (j : ℕ) (h : length T ≤ j) where
 
 -- ---- rows of lines
 pub plain_unmet : (k : ℕ) (ts : List Line) → asked k ≡ true → all plain ts ≡ true → all (unmet k) ts ≡ true
-unfolding all
 plain_unmet k [] a h = refl
 plain_unmet k (t ∷ ts) a h =
     let b = and_both (plain t) (all plain ts) h in

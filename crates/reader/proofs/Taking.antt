@@ -119,14 +119,13 @@ abbrev of_word : ℕ → Bool
 of_word w = leb w 16
 
 all_fit : all (λ (f : Kind). all of_word (widths (row_of f).before)) kinds ≡ true
-unfolding all widths
+unfolding widths
 all_fit = refl
 
 roomy : (w x : ℕ) → w ≤ 16 → x < 2 ^ w → x < room w
 roomy w x l h = by_test (leb w 8) (λ e. rw e (lt_of_lt_of_le h (pow-le-pow_right (omega arith) (leb-true w 8 e)))) (λ e. rw e (lt_of_lt_of_le h (pow-le-pow_right (omega arith) l)))
 
 word_at : (ws : List ℕ) (i : ℕ) → all of_word ws ≡ true → get_or ws i 0 ≤ 16
-unfolding all
 word_at [] i h = omega arith
 word_at (w ∷ ws) zero h = leb-true w 16 (and_both (of_word w) (all of_word ws) h).0
 word_at (w ∷ ws) (suc i) h = word_at ws i (and_both (of_word w) (all of_word ws) h).1

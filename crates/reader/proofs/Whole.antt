@@ -70,7 +70,6 @@ count_small b h = count_by_lem (row_of (kind_in b)) b (content_at b) (content_si
 
 -- ---- a content, and a packet
 count_unmet : (a : ℕ) (s : Counting) (k : ℕ) (l : List ℕ) (p : ℕ) → (a ≡ 26 → ⊥) → fine a (count_line s k) (decode (count_line s k) l p) ≡ true
-unfolding all
 count_unmet a s k l p h = unmet_fine a (count_line s k) (decode (count_line s k) l p) (go s)
   where
     use_ne : eqb 26 a ≡ false

@@ -93,7 +93,7 @@ is_sample_lem : (z : ℤ) → nat_abs z ≤ 32767 → is_sample (of_whole z) ≡
 is_sample_lem z h = is_true (is_sample (of_whole z)) (between_within 32767 32767 (of_whole z) z (of_means binary64 z (small_fits z h)) (small_between z h))
 
 all_samples : (d : Bool) (wave : List ℤ) → all (λ z. leb (nat_abs z) 32767) wave ≡ true → all is_sample (symbol_at wave d) ≡ true
-unfolding symbol_at all
+unfolding symbol_at
 all_samples d [] h = refl
 all_samples d (z ∷ wave) h =
     let k : nat_abs z ≤ 32767 = leb→le (nat_abs z) 32767 (holds (all_head (λ z. leb (nat_abs z) 32767) z wave h)) in
@@ -101,7 +101,7 @@ all_samples d (z ∷ wave) h =
 
 -- each number of a level is that of the other, turned
 number_turned : (d : Bool) (wave : List ℤ) → all (λ z. leb (nat_abs z) 32767) wave ≡ true → (j : ℕ) → whole_of (get_or (symbol_at wave d) j nan) ≡ turned d (whole_of (get_or (symbol_at wave false) j nan))
-unfolding symbol_at all whole_of
+unfolding symbol_at whole_of
 number_turned d [] h j = sym (turned_zero d)
 number_turned d (z ∷ wave) h zero =
     let k : nat_abs z ≤ 32767 = leb→le (nat_abs z) 32767 (holds (all_head (λ z. leb (nat_abs z) 32767) z wave h)) in

@@ -20,11 +20,11 @@ abbrev lowest : List Float
 lowest = replicate 16 (of_whole (negsuc 32767)) ++ replicate 16 (of_whole (pos 32767))
 
 pub full : decided (pair_of (pos 524280) (negsuc 524279)) lowest ≡ record { answer = 0; verdict = Undecided (of_whole (pos 0)); state = pair_of (negsuc 524279) (negsuc 524279) }
-unfolding decided decide_answer decide_cases first all total verdict_of is_whole whole_of within of_int
+unfolding decided decide_answer decide_cases first total verdict_of is_whole whole_of within of_int
 full = refl
 
 pub largest : decided (pair_of (negsuc 524279) (negsuc 524279)) lowest ≡ record { answer = 0; verdict = Zero (of_whole (pos 549739036800)); state = pair_of (negsuc 524279) (negsuc 524279) }
-unfolding decided decide_answer decide_cases first all total verdict_of is_whole whole_of within of_int
+unfolding decided decide_answer decide_cases first total verdict_of is_whole whole_of within of_int
 largest = refl
 
 -- 5.0 in front, minus zeros, 32767.0 behind, as patterns
@@ -32,16 +32,16 @@ abbrev mixed : List Float
 mixed = set (set (replicate 32 (of_bits binary64 0x8000000000000000)) 0 (of_bits binary64 0x4014000000000000)) 31 (of_bits binary64 0x40dfffc000000000)
 
 pub some : decided (pair_of (negsuc 2) (pos 1)) mixed ≡ record { answer = 0; verdict = One (of_whole (negsuc 32781)); state = pair_of (pos 5) (negsuc 32766) }
-unfolding decided decide_answer decide_cases first all total verdict_of is_whole whole_of within of_int of_bits
+unfolding decided decide_answer decide_cases first total verdict_of is_whole whole_of within of_int of_bits
 some = refl
 
 -- minus zero is a sample, and a symbol of nothing else gives plus zeros
 pub minus_zeros : decided (pair_of (negsuc 2) (pos 1)) (replicate 32 (of_bits binary64 0x8000000000000000)) ≡ record { answer = 0; verdict = Undecided (of_whole (pos 0)); state = fresh_pair }
-unfolding decided decide_answer decide_cases first all total verdict_of is_whole whole_of within of_int of_bits
+unfolding decided decide_answer decide_cases first total verdict_of is_whole whole_of within of_int of_bits
 minus_zeros = refl
 
 pub half : decided (pair_of (negsuc 2) (pos 1)) (set mixed 3 (of_bits binary64 0x3fe0000000000000)) ≡ refusal 38 (pair_of (negsuc 2) (pos 1))
-unfolding decided decide_answer decide_cases first all total verdict_of is_whole whole_of within of_int of_bits
+unfolding decided decide_answer decide_cases first total verdict_of is_whole whole_of within of_int of_bits
 half = refl
 
 -- what is no sample: not a number, both infinities, a half, 2 ^ 53, one past each end; and the ends, which are
@@ -61,11 +61,11 @@ no_parts = refl
 
 -- two cases at once: 28 comes before 37, and 37 before 38
 pub beyond : decided (pair_of (pos 524281) (pos 0)) [] ≡ refusal 28 (pair_of (pos 524281) (pos 0))
-unfolding decided decide_answer decide_cases first all total verdict_of is_whole whole_of within of_int of_bits
+unfolding decided decide_answer decide_cases first total verdict_of is_whole whole_of within of_int of_bits
 beyond = refl
 
 pub few : decided (pair_of (pos 524280) (pos 0)) (replicate 31 nan) ≡ refusal 37 (pair_of (pos 524280) (pos 0))
-unfolding decided decide_answer decide_cases first all total verdict_of is_whole whole_of within of_int of_bits
+unfolding decided decide_answer decide_cases first total verdict_of is_whole whole_of within of_int of_bits
 few = refl
 
 -- 5.0 as eight bytes, high first, behind one other
@@ -82,10 +82,10 @@ wave = wave_of half_wave (pos 3) (negsuc 3)
 
 -- it can be sent, so `differential` speaks of something
 pub sendable : Sendable wave
-unfolding phased symbol_at all total whole_of of_int
+unfolding phased symbol_at total whole_of of_int
 sendable = record { numbers = refl; samples = refl; nonzero = λ a b. let n : ◌≡◌ {A = ℕ} 180 0 = ap nat_abs a in omega arith }
 
 -- 1, 0, 1, 1 from level 0
 pub four_bits : verdicts fresh_pair (sent wave false (1 ∷ 0 ∷ 1 ∷ 1 ∷ [])) ≡ Undecided (of_whole (pos 0)) ∷ map (told 90000) (0 ∷ 1 ∷ 1 ∷ [])
-unfolding verdicts coded phased symbol_at decided decide_answer decide_cases first all total verdict_of is_whole whole_of within of_int
+unfolding verdicts coded phased symbol_at decided decide_answer decide_cases first total verdict_of is_whole whole_of within of_int
 four_bits = refl

@@ -70,7 +70,6 @@ part_size x t = (between_parts 524279 524280 (whole_of x) (within_between 524279
 
 -- ---- a symbol's samples
 pub sample_at : (xs : List Float) → T (all is_sample xs) → (i : ℕ) → i < length xs → T (is_sample (get_or xs i nan))
-unfolding all
 sample_at [] t i h = absurd (none i h)
   where
     none : (i : ℕ) → i < 0 → ⊥
@@ -79,7 +78,7 @@ sample_at (x ∷ xs) t zero h = and_l (is_sample x) (all is_sample xs) t
 sample_at (x ∷ xs) t (suc i) h = sample_at xs (and_r (is_sample x) (all is_sample xs) t) i (omega arith)
 
 pub sample_bound : (xs : List Float) → T (all is_sample xs) → (i : ℕ) → (plus_of (whole_of (get_or xs i nan)) ≤ 32767) × (minus_of (whole_of (get_or xs i nan)) ≤ 32768)
-unfolding all whole_of
+unfolding whole_of
 sample_bound [] t i = (lit≤ {m = 0} {n = 32767} tt, lit≤ {m = 0} {n = 32768} tt)
 sample_bound (x ∷ xs) t zero = let k = between_parts 32767 32767 (whole_of x) (within_between 32767 32767 x (and_l (is_sample x) (all is_sample xs) t)) in (k.0, k.1)
 sample_bound (x ∷ xs) t (suc i) = sample_bound xs (and_r (is_sample x) (all is_sample xs) t) i

@@ -26,7 +26,6 @@ use Rattle.shelf.specs.Back.{digit_of, bytes_of, hex_in}
 
 -- ---- the parts of a record that was made
 all_same : (n x : ℕ) → all (eqb x) (replicate n x) ≡ true
-unfolding all
 all_same zero x = refl
 all_same (suc n) x = and_yes _ (eq-eqb x x refl) ∙ all_same n x
 

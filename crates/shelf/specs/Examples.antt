@@ -21,27 +21,27 @@ kept = heard ++ record_of 6 31 (0xA8 ∷ 0x00 ∷ [])
 
 -- it keeps the rules; with another level, P, length field, fill or closing byte it doesn't
 pub heard_right : right heard ≡ true
-unfolding record_of right reserved packet_size at bits_of spread all
+unfolding record_of right reserved packet_size at bits_of spread
 heard_right = refl
 
 pub level_wrong : right (set heard 0 7) ≡ false
-unfolding record_of right reserved packet_size at bits_of spread all
+unfolding record_of right reserved packet_size at bits_of spread
 level_wrong = refl
 
 pub size_wrong : right (set heard 3 4) ≡ false
-unfolding record_of right reserved packet_size at bits_of spread all
+unfolding record_of right reserved packet_size at bits_of spread
 size_wrong = refl
 
 pub field_wrong : right (set heard 5 2) ≡ false
-unfolding record_of right reserved packet_size at bits_of spread all
+unfolding record_of right reserved packet_size at bits_of spread
 field_wrong = refl
 
 pub fill_wrong : right (set heard 253 0) ≡ false
-unfolding record_of right reserved packet_size at bits_of spread all
+unfolding record_of right reserved packet_size at bits_of spread
 fill_wrong = refl
 
 pub closing_wrong : right (set heard 255 1) ≡ false
-unfolding record_of right reserved packet_size at bits_of spread all
+unfolding record_of right reserved packet_size at bits_of spread
 closing_wrong = refl
 
 -- "5 3 3 7801AF"

@@ -93,7 +93,7 @@ unfolding inside
 same_26 w x y e = rw (e, le-leb x x (omega arith))
 
 lines_26 : (f : Kind) (k : ℕ) (l : List ℕ) → at l 0 8 ≡ tag_of f → at l 8 16 ≡ content_bytes f k → k ≡ count_in (row_for f) l 24 0 → fine 26 (command_lines f k) (decode (command_lines f k) l 0) ≡ true
-unfolding fine decode run all
+unfolding fine decode run
 lines_26 f k l t n c =
     let r = row_for f in
     let L = count_line r.counting k in

@@ -38,7 +38,6 @@ use Rattle.sister.proofs.Back.{count_small}
 -- ---- the lines that an answer is about
 module _ (a : ℕ) (e0 : eqb 0 a ≡ false) (e26 : eqb 26 a ≡ false) where
   octets_unmet : all (unmet a) octet ≡ true
-  unfolding all
   octets_unmet = rw e0
 
   -- only those of the codes
@@ -56,7 +55,7 @@ abbrev ranged_by : Parts → Bool
 ranged_by p = fine 27 (row_for p.kind).before (fill (row_for p.kind).before p.numbers)
 
 numbers_only : (f : Kind) (k : ℕ) (l : List ℕ) → fine 27 (command_lines f k) (decode (command_lines f k) l 0) ≡ ranged_by (parts_of (found f k l))
-unfolding fine decode all
+unfolding fine decode
 numbers_only f k l =
     let B = (row_for f).before in
     let n = need B in

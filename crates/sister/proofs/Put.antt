@@ -116,7 +116,7 @@ module _ (c : Command) (address codes : List ℕ) (h : Counted c address codes) 
 
   -- ---- the lines that an answer is about
   pub fine_25 : fine 25 (table_for c) (values_for c address codes) ≡ inside 0 9 codes
-  unfolding table_for numbers_for fine fill all
+  unfolding table_for numbers_for fine fill
   fine_25 =
       ap (λ (ts : List Line). fine 25 ts (fill ts xs)) (rows.whole f k)
       ∙ shaped_fine (row_for f) k m n (parts_of c).numbers address codes (numbers_long c) h.address_long 25
@@ -126,7 +126,7 @@ module _ (c : Command) (address codes : List ℕ) (h : Counted c address codes) 
       ∙ codes_digits n codes (omega (arith, h.codes_long))
 
   pub fine_27 : fine 27 (table_for c) (values_for c address codes) ≡ fine 27 (row_for f).before (fill (row_for f).before (parts_of c).numbers)
-  unfolding table_for numbers_for fine fill all
+  unfolding table_for numbers_for fine fill
   fine_27 =
       let F = fine 27 (row_for f).before (fill (row_for f).before (parts_of c).numbers) in
       ap (λ (ts : List Line). fine 27 ts (fill ts xs)) (rows.whole f k)

@@ -74,7 +74,7 @@ tests f =
     ∷ []
 
 passed : (f : Kind) → all (λ (b : Bool). b) (tests f) ≡ true
-unfolding all size part_at
+unfolding size part_at
 passed = each_kind (λ (f : Kind). all (λ (b : Bool). b) (tests f) ≡ true) (refl, refl, refl, refl)
 
 at : (f : Kind) (i : ℕ) → i < 17 → get_or (tests f) i true ≡ true
@@ -127,7 +127,6 @@ module _ (f : Kind) (k : ℕ) where
 
   every : (g : Line → Bool) → g (just 8 (tag_of f)) ≡ true → g (just 16 (content_bytes f k)) ≡ true → g (just 8 k) ≡ true → all g (row_for f).before ≡ true → all g octet ≡ true → all g code ≡ true
       → all g (command_lines f k) ≡ true
-  unfolding all
   every g h1 h2 h3 hb ho hc = ap (all g) whole ∙ and_yes _ h1 ∙ and_yes _ h2 ∙ shaped_all (row_for f) k (address_count f k) (code_count f k) g h3 hb ho hc
 
   pub few_bytes : k ≤ 255 → content_bytes f k < 65536
@@ -146,19 +145,15 @@ module _ (f : Kind) (k : ℕ) where
       (omega (arith, a, p, m), omega (arith, c, mul-le-mul_left (amounts_of f).codes_each h), omega (arith, a, m))
 
   pub all_tight : k ≤ 255 → all tight (command_lines f k) ≡ true
-  unfolding all
   all_tight h = every tight (and_yes _ (at f 8 (omega arith))) (and_yes _ (lt-ltb _ _ (few_bytes h))) (and_yes _ (lt-ltb k 256 (omega arith))) (at f 0 (omega arith)) refl refl
 
   pub all_24 : all (given 24) (command_lines f k) ≡ true
-  unfolding all
   all_24 = every (given 24) refl refl refl (at f 1 (omega arith)) refl refl
 
   pub all_26 : all (given 26) (command_lines f k) ≡ true
-  unfolding all
   all_26 = every (given 26) (eq-eqb (tag_of f) (tag_of f) refl) (eq-eqb (content_bytes f k) (content_bytes f k) refl) (eq-eqb k k refl) (at f 2 (omega arith)) refl refl
 
   pub all_settled : all settled (command_lines f k) ≡ true
-  unfolding all
   all_settled = every settled (and_yes _ (eq-eqb (tag_of f) (tag_of f) refl)) (and_yes _ (eq-eqb (content_bytes f k) (content_bytes f k) refl)) (and_yes _ (eq-eqb k k refl)) (at f 3 (omega arith)) refl refl
 
 pub first_26 : (f : Kind) → all (unmet 26) (row_for f).before ≡ true

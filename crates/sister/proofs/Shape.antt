@@ -84,7 +84,7 @@ abbrev pub free : Line → Bool
 free t = t.given
 
 pub fill_free : (ts : List Line) (l : List ℕ) (p : ℕ) → all free ts ≡ true → fill ts (flat ts (decode ts l p)) ≡ decode ts l p
-unfolding all fill flat decode
+unfolding fill flat decode
 fill_free [] l p h = refl
 fill_free (t ∷ ts) l p h =
     let a = and_both t.given (all free ts) h in

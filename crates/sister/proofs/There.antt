@@ -95,7 +95,7 @@ numbers_all c address codes h k = length-append (parts_of c).numbers (address ++
 
 -- the numbers that no answer is about have their bits
 bits_held : (c : Command) (address codes : List ℕ) → Typed c address → length address ≡ address_count (kind_for c) (count_for c) → fine 0 (table_for c) (values_for c address codes) ≡ true
-unfolding table_for numbers_for fine fill all
+unfolding table_for numbers_for fine fill
 bits_held c address codes t n =
     let f = kind_for c in
     let k = count_for c in

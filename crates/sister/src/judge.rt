@@ -131,14 +131,7 @@ pub(crate) fn answer(b: &[u8]) -> u8
 fn digits_fine(xs: &[u8]) -> bool
     ensures { result ≡ inside 0 9 xs.now }
 {
-    let mut j: usize = 0;
-    while j < xs.len() {
-        if xs[j] > 9 {
-            return false;
-        }
-        j += 1;
-    }
-    true
+    xs.iter().all(|x| *x <= 9)
 }
 
 // The count is above 255, or the address or the codes are not as many as the command has.

@@ -83,7 +83,7 @@ module _ (x : Part) (ps : List Tale) where
 -- ---- a steady place stays one
 module _ (p : Tale) (x : Part) (t : List ℕ) where
   pub steady_opened : fair p ≡ true → x.total ≤ 9 → Steady (opened p x t)
-  unfolding opened zeros all
+  unfolding opened zeros
   steady_opened e h =
       by_test (p.held && not (contradicts p x.place t))
       (λ w. rw w (held_steady p e (and_left p.held _ w)))

@@ -93,7 +93,6 @@ own_digits s codes e =
 
 -- ---- fields that differ from these in digits and body alone are taken
 octets_fine : (a : ℕ) (t : ℕ) (vs : List (List ℕ)) → unmet a (octets 1) ≡ true → fine a (times t (octets 1 ∷ [])) vs ≡ true
-unfolding all
 octets_fine a t vs h = unmet_fine a (times t (octets 1 ∷ [])) vs (all_times (unmet a) t (octets 1 ∷ []) (and_yes true h))
 
 counts_of : (s : Story) (ds : List ℕ) (t : ℕ) (codes body : List ℕ) → length body ≡ t → length codes ≡ s.codes * 23 → Counts (fields_with s ds t) codes body

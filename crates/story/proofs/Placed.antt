@@ -62,7 +62,6 @@ pub data Parts (n : ℕ) (ds : List ℕ) : ℕ → List (List ℕ) → List (Lis
   and_more : {k : ℕ} {b p : List ℕ} {bs ps : List (List ℕ)} → Reads n ds k b p → Parts n ds (k + 1) bs ps → Parts n ds k (b ∷ bs) (p ∷ ps)
 
 head_test : (n j k : ℕ) (p : List ℕ) → same (head_of (j + 1) n) (take 4 (head_of (k + 1) n ++ p)) ≡ eqb j k
-unfolding same
 head_test n j k p =
     by_test (eqb j k)
     (λ e. rw (e, eq-eqb (48 + (j + 1)) (48 + (k + 1)) (omega (arith, eqb-true j k e)), eq-eqb (48 + n) (48 + n) refl))
@@ -78,12 +77,10 @@ module _ (n : ℕ) (ds : List ℕ) where
   as_many (and_more r q) = ap suc (as_many q)
 
   all_parts : {k : ℕ} {bs ps : List (List ℕ)} → Parts n ds k bs ps → all is_part bs ≡ true
-  unfolding all
   all_parts no_more = refl
   all_parts (and_more {b = b} {bs = bs} r q) = all_cons is_part b bs r.part (all_parts q)
 
   pub all_stated : {k : ℕ} {bs ps : List (List ℕ)} → Parts n ds k bs ps → all stated bs ≡ true
-  unfolding all
   all_stated no_more = refl
   all_stated (and_more {b = b} {bs = bs} r q) = all_cons stated b bs r.sized (all_stated q)
 

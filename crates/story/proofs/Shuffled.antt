@@ -23,7 +23,6 @@ both_ways false true z = refl
 both_ways false false z = refl
 
 pub all_same : (f : List ℕ → Bool) {bs cs : List (List ℕ)} → Rearranged bs cs → all f bs ≡ all f cs
-unfolding all
 all_same f none_left = refl
 all_same f (one_kept {f = b} r) = ap (λ (t : Bool). f b && t) (all_same f r)
 all_same f (two_swapped {f = b} {g = c} {fs = bs}) = both_ways (f b) (f c) (all f bs)

@@ -109,7 +109,7 @@ chars_drop (suc m) (x ∷ l) =
     ∙ sym (ap (drop (suc m)) f.chars)
 
 chars_short : (r n : ℕ) (l : List ℕ) → 2 ≤ r → length l ≤ n → all (short r) (characters l) ≡ true
-unfolding all characters
+unfolding characters
 chars_short r zero [] h g = refl
 chars_short r zero (x ∷ l) h g = absurd (omega arith)
 chars_short r (suc n) [] h g = refl

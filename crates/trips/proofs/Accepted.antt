@@ -32,11 +32,9 @@ unfolding count_of
 of_count b = refl
 
 pub code_26 : all (unmet 26) code ≡ true
-unfolding all
 code_26 = refl
 
 pub ending_26 : all (unmet 26) ending ≡ true
-unfolding all
 ending_26 = refl
 
 same_26 : (w x : ℕ) (y : ℕ) → y ≡ x → line_ok 26 (just w x) (y ∷ []) ≡ true
@@ -58,7 +56,7 @@ count_26 r l q m k h = go r.counting refl
     go counting.Unknown e = rw e
 
 pub settled_table : (b : List ℕ) → all settled (table_of b) ≡ true
-unfolding table_of all
+unfolding table_of
 settled_table b =
     let g = contents.fair (kind_in b) in
     let r = row_of (kind_in b) in

@@ -86,7 +86,7 @@ abbrev passed : Kind → Bool
 passed f = all (λ (b : Bool). b) (tests f)
 
 all_pass : all passed kinds ≡ true
-unfolding all size part_at behind
+unfolding size part_at behind
 all_pass = refl
 
 pub fair : (f : Kind) → Fair f

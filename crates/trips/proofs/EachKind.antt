@@ -66,7 +66,7 @@ line_digits t v g h = part t.given refl
         ∙ h
 
 all_digits : (ts : List Line) (l : List ℕ) (q : ℕ) → all digit_line ts ≡ true → fine 25 ts (decode ts l q) ≡ true → inside 0 9 (flat ts (decode ts l q)) ≡ true
-unfolding all fine decode flat
+unfolding fine decode flat
 all_digits [] l q g h = inside_none
 all_digits (t ∷ ts) l q g h =
     let v = run l q t.count t.width in

@@ -66,7 +66,7 @@ line_inside t v a z p q r s =
     go false false false false ew ex ey eu h = here 27 h s
 
 pub fits_fill : (ts : List Line) (xs : List ℕ) → length xs ≡ need ts → all tight ts ≡ true → Clean ts (fill ts xs) → Fits ts (fill ts xs)
-unfolding all fine fill need
+unfolding fine fill need
 fits_fill [] xs n a c = none
 fits_fill (t ∷ ts) xs n a c =
     let v = cond t.given (take t.count xs) (replicate t.count t.lo) in

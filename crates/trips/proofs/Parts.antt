@@ -102,14 +102,13 @@ packet_fill r t p n k x y z hx hy =
 -- ---- what holds of every line of a packet
 pub all_packet : (f : Line → Bool) (r : Row) (t p n k : ℕ) → f (just 5 t) ≡ true → f (just 11 (p - 2)) ≡ true → f (just 8 n) ≡ true → all f (count_line r.counting k) ≡ true → all f code ≡ true → all f ending ≡ true
     → all f r.before ≡ true → all f r.each ≡ true → all f r.after ≡ true → all f (packet r t p n k) ≡ true
-unfolding packet all content_lines
+unfolding packet content_lines
 all_packet f r t p n k h1 h2 h3 hk hc he hb hr ha =
     let c = all_times f n code hc in
     let m = all_times f k r.each hr in
     rw (h1, h2, h3, all_append f (times n code) ((r.before ++ (count_line r.counting k ++ (times k r.each ++ r.after))) ++ ending), c, all_append f (r.before ++ (count_line r.counting k ++ (times k r.each ++ r.after))) ending, all_append f r.before (count_line r.counting k ++ (times k r.each ++ r.after)), hb, all_append f (count_line r.counting k) (times k r.each ++ r.after), hk, all_append f (times k r.each) r.after, m, ha, he)
 
 pub all_count : (f : Line → Bool) (s : Counting) (k : ℕ) → f (just 8 k) ≡ true → all f (count_line s k) ≡ true
-unfolding all
 all_count f counting.Fixed k h = refl
 all_count f counting.Counted k h = rw h
 all_count f counting.Raw k h = refl

@@ -65,7 +65,7 @@ module _ (f : Fields) (codes body : List ℕ) (a : Taken f codes body) (y : Fitt
   given_26 w x = rw (eq-eqb x x refl)
 
   clean : fitting.Clean (table_for f body) (values_for f codes body)
-  unfolding table_for all
+  unfolding table_for
   clean =
       let c = f.content in
       let k = count_for c body in
@@ -81,7 +81,7 @@ module _ (f : Fields) (codes body : List ℕ) (a : Taken f codes body) (y : Fitt
       }
 
   fits : Fits (table_for f body) (values_for f codes body)
-  unfolding table_for all
+  unfolding table_for
   fits =
       let c = f.content in
       let k = count_for c body in

@@ -95,11 +95,9 @@ lent_long c body a b = lent_by (parts_of c).count (need (row_for c).each) body (
 
 -- a number of the table has its bits
 tight_8 : (k : ℕ) → k ≤ 255 → all fitting.tight (just 8 k ∷ []) ≡ true
-unfolding all
 tight_8 k h = rw (lt-ltb k 256 (omega arith))
 
 tight_none : all fitting.tight [] ≡ true
-unfolding all
 tight_none = refl
 
 -- a count has eight bits where there is one
@@ -128,7 +126,6 @@ unfolding body_for
 whole_body c body h = take_all (count_for c body * need (row_for c).each) body (omega (arith, h))
 
 pub code_unmet : all (unmet 0) code ≡ true
-unfolding all
 code_unmet = refl
 
 pub octet_size : size (octets 1 ∷ []) ≡ 8

@@ -59,7 +59,7 @@ bytes_inside [] u = refl
 bytes_inside (x ∷ v) u = rw (le-leb 0 x (omega arith), le-leb x 255 (omega (arith, u 0)), bytes_inside v (λ i. u (suc i)))
 
 fine_bytes : (ts : List Line) (xs : List ℕ) → all byte_line ts ≡ true → Under 256 xs → fine 0 ts (fill ts xs) ≡ true
-unfolding all fine fill
+unfolding fine fill
 fine_bytes [] xs h u = refl
 fine_bytes (t ∷ ts) xs h u =
     let a = and_both (byte_line t) (all byte_line ts) h in

@@ -58,7 +58,7 @@ abbrev passed : Kind → Bool
 passed f = all (unmet 25) (own_of f) && (all tame (beside_of f) && all tame (row_of f).after)
 
 all_pass : all passed kinds ≡ true
-unfolding all own_lines lines_for
+unfolding own_lines lines_for
 all_pass = refl
 
 record Tamed (f : Kind) : Type 0 where

@@ -43,7 +43,6 @@ codes_digits (suc n) codes h =
     ∙ ap (inside 0 9) (take-append-drop 23 codes)
 
 pub codes_range : (n : ℕ) (vs : List (List ℕ)) → fine 27 (times n code) vs ≡ true
-unfolding all
 codes_range n vs = unmet_fine 27 (times n code) vs (all_times (unmet 27) n code refl)
 
 -- ---- what is repeated: only entries are tested
@@ -65,7 +64,6 @@ unfolding fine fill
 ending_digits time certificate signature h = rw (take_at certificate signature 12 h, and-true (inside 0 9 certificate))
 
 pub ending_range : (vs : List (List ℕ)) → fine 27 ending vs ≡ true
-unfolding all
 ending_range vs = unmet_fine 27 ending vs refl
 
 -- ---- an answer that is one of the two, and the entries as they are lent
