@@ -3,10 +3,12 @@ use mathlib.Core.Path.{◌≡◌, refl, sym, ap, ◌∙◌}
 use mathlib.Core.Bool.{cond}
 use Prim.Native.Nat.{ℕ}
 use native.Mathlib.Omega.{arith}
+use borrow.Author.Rules.{rules}
 use lib.Dec.{eqb}
+use Rattle.std.specs.Prelude.{Result, Ok, Err, IsOk}
 use Rattle.refusal.specs.declared.Refusal.{Refusal}
 use Rattle.refusal.specs.declared.Refusal.TheVariants as refusal
-use Rattle.refusal.specs.Refusal.{number_of}
+use Rattle.refusal.specs.Refusal.{number_of, answer_of}
 
 -- a refusal is not told as a value is
 pub some_number : (e : Refusal) → number_of e ≡ 0 → ⊥
@@ -62,3 +64,8 @@ back refusal.FullShelf = refl
 -- so an answer names one refusal
 pub same_number : (d e : Refusal) → number_of d ≡ number_of e → d ≡ e
 same_number d e h = sym (back d) ∙ ap refusal_of h ∙ back e
+
+-- what is told by 0 is a value
+pub value_told : {A : Type 0} (r : Result A Refusal) → answer_of r ≡ 0 → IsOk r
+value_told (Ok value) z = search rules
+value_told (Err e) z = absurd (some_number e z)
