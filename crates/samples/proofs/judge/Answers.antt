@@ -7,7 +7,7 @@ use Rattle.samples.specs.Symbol.{is_pair}
 use Rattle.samples.proofs.Steps.{failed, passed, pair_first, pair_second, pair_both, gives_28, gives_37, gives_38, gives_0}
 use mathlib.Core.Path.{ap}
 use mathlib.Core.Bool.{not}
-use Rattle.samples.proofs.answer_for.Goals as goal
+use Rattle.samples.proofs.judge.Goals as goal
 
 pub returns-then-not-is_part : goal.returns-then-not-is_part
 returns-then-not-is_part c = let p = c.args.state in
