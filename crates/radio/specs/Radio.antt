@@ -2,7 +2,7 @@
 use Rattle.std.specs.Prelude.{ℕ}
 use Rattle.block.specs.declared.Carried.{Carried}
 use Rattle.block.specs.declared.Carried.TheVariants as carried
-use Rattle.air.specs.declared.Aired.{Aired}
+use Rattle.air.specs.OnAir.{Aired}
 use Rattle.samples.specs.declared.Decided.{Decided}
 use Rattle.samples.specs.declared.Verdict.{Verdict}
 use Rattle.samples.specs.declared.Verdict.TheVariants.{Zero, One, Undecided}

@@ -66,10 +66,12 @@ pub fn radio_on_air(packet: &[u8], level: u8, version: u8, out: &mut [u8]) -> Se
     ensures answer { result ≡ sent_as (aired_of packet.now level version out.old) }
     ensures out { out.new ≡ aired_into packet.now level version out.old }
 {
-    let aired = air::on_air(packet, level, version, out);
-    Sent {
-        answer: aired.answer,
-        frames: aired.frames,
+    match air::on_air(packet, level, version, out) {
+        Ok(frames) => Sent { answer: 0, frames },
+        Err(refusal) => Sent {
+            answer: refusal.number(),
+            frames: 0,
+        },
     }
 }
 
