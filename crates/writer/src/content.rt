@@ -8,7 +8,7 @@ ghost use Rattle.writer.specs.Puts.{After, Known, count_lent};
 ghost use Rattle.writer.specs.Parts.{own_bits, beside_bits, front_bits, front_size, body_bits, body_size, back_bits, content_bits, content_size, Lent};
 
 use crate::{columns, puts};
-use packet::{Content, Counting, Kind, Laid, RowLines};
+use packet::{Content, Counting, Kind, Laid, Lines, RowLines};
 
 // The kind of a content.
 pub(crate) fn kind_for(c: Content) -> Kind
@@ -70,9 +70,14 @@ fn put_beside(
     ensures { After out.old out.new p (beside_bits c digits.now) result (size (beside_of (kind_for c))) }
 {
     let before = s.before;
-    let w = before.numbers - l.n;
-    let rest = puts::lines_at(before.from + s.own, before.m - s.own);
-    columns::put_rows(out, p, rest, 1, bits, w, &digits[0..w])
+    let numbers = before.numbers - l.n;
+    let rest = Lines {
+        from: before.from + s.own,
+        m: before.m - s.own,
+        bits,
+        numbers,
+    };
+    columns::put_rows(out, p, rest, 1, &digits[..numbers])
 }
 
 // What stands before the repeated part: the first lines, and the count where there is one.
@@ -102,7 +107,7 @@ fn put_body(out: &mut [u8], p: usize, c: Content, s: RowLines, k: usize, body: &
 {
     let each = s.each;
     if 1 < each.m {
-        columns::put_rows(out, p, each, k, each.bits, each.numbers, body)
+        columns::put_rows(out, p, each, k, body)
     } else {
         puts::put_octets(out, p, body)
     }
@@ -117,8 +122,7 @@ fn put_back(out: &mut [u8], p: usize, c: Content, s: RowLines, digits: &[u8]) ->
     if after.m == 0 {
         return p;
     }
-    let w = after.numbers;
-    columns::put_rows(out, p, after, 1, after.bits, w, &digits[0..w])
+    columns::put_rows(out, p, after, 1, &digits[..after.numbers])
 }
 
 // A whole content from bit p on; the place behind it.

@@ -53,10 +53,9 @@ fn body_fine(answer: u8, c: Content, body: &[u8]) -> bool
     let f = content::kind_for(c);
     if table::has_entries(f) {
         let s = table::row_of(f);
-        let z = table::sizes_of(f);
         let each = s.each;
         let k = content::count_for(c, body.len());
-        columns::rows_fit(answer, each, k, z.row, body)
+        columns::rows_fit(answer, each, k, body)
     } else {
         true
     }
