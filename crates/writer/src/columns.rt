@@ -1,5 +1,5 @@
 // Lines that stand in every row of a table, a line in all rows and then the next: tested, and put into bits.
-ghost use Rattle.std.specs.Prelude.{◌≡◌, true, cond, ℕ, ◌+◌, ◌*◌, ◌%◌, ◌<◌, ◌≤◌, length, get_or, take, drop};
+ghost use Rattle.std.specs.Prelude.{◌≡◌, true, ℕ, ◌+◌, ◌*◌, ◌%◌, ◌<◌, ◌≤◌, length, take, drop};
 ghost use Rattle.std.proofs.lemmas.List.Edits.{sets};
 ghost use Rattle.laws.specs.Bits.{bits, spread};
 ghost use Rattle.laws.specs.Strips.{strips, every};
@@ -127,17 +127,6 @@ fn put_halves(out: &mut [u8], p: usize, n: usize, xs: &[u8], i: usize)
     put_pairs(out, p / 8 + a, n / 2, xs, i + a);
 }
 
-// The number at i of a line: its own, or the one that it always has.
-fn number_in(t: Line, xs: &[u8], i: usize) -> u32
-    ensures { result ≡ cond t.given (get_or xs.now i 0) t.lo }
-{
-    if t.given {
-        u32::from(xs.get(i).copied().unwrap_or(0))
-    } else {
-        t.lo
-    }
-}
-
 // A line from bit p on, with the numbers of xs from i on, number by number.
 fn put_numbers(out: &mut [u8], p: usize, t: Line, xs: &[u8], i: usize)
     requires { (sound t ≡ true) × (p < 50000) × (i + own t ≤ length xs.now) × (i < 50000) }
@@ -145,7 +134,7 @@ fn put_numbers(out: &mut [u8], p: usize, t: Line, xs: &[u8], i: usize)
 {
     let mut q = p;
     for j in 0..t.count {
-        let x = number_in(t, xs, i + j);
+        let x = puts::number_of(t, u32::from(xs.get(i + j).copied().unwrap_or(0)));
         format::put_field(out, q, t.width, x);
         q += t.width;
     }
