@@ -1,10 +1,10 @@
 // What the letters program prints of 26 bits that carry a letter.
-ghost use Rattle.std.specs.Prelude.{◌≡◌, ◌∷◌, ◌+◌, ◌/◌, ◌%◌, ◌<◌, ◌≤◌, length};
+ghost use Rattle.std.specs.Prelude.{Some, ◌≡◌, ◌∷◌, ◌+◌, ◌/◌, ◌%◌, ◌<◌, ◌≤◌, length};
 ghost use Rattle.std.proofs.lemmas.List.Edits.{sets};
 ghost use Rattle.print.specs.Letters.{number_text, number_written, number_into, letter_text, info_text, letter_written, letter_output};
 
 use crate::put_hex;
-use block::Carried;
+use block::AnyLetter;
 
 // The number's digits from the output's start, and how many.
 pub(crate) fn put_number(n: u64, out: &mut [u8]) -> usize
@@ -33,27 +33,26 @@ pub fn number(n: u64, out: &mut [u8]) -> usize
     put_number(n, out)
 }
 
-// The name of a letter; of none it is empty.
-fn name_of(carried: Carried) -> &'static [u8]
-    ensures { 32 ∷ result.now ≡ letter_text carried }
+// The name of a letter.
+fn name_of(letter: AnyLetter) -> &'static [u8]
+    ensures { 32 ∷ result.now ≡ letter_text (Some letter) }
 {
-    match carried {
-        Carried::None => b"",
-        Carried::A => b"A",
-        Carried::B => b"B",
-        Carried::C => b"C",
-        Carried::D => b"D",
-        Carried::CPrime => b"C'",
+    match letter {
+        AnyLetter::A => b"A",
+        AnyLetter::B => b"B",
+        AnyLetter::C => b"C",
+        AnyLetter::D => b"D",
+        AnyLetter::CPrime => b"C'",
     }
 }
 
 // A space and the letter's name from a byte on, and how many bytes.
-fn put_letter(carried: Carried, at: usize, out: &mut [u8]) -> usize
+fn put_letter(letter: AnyLetter, at: usize, out: &mut [u8]) -> usize
     requires { at + 3 ≤ length out.old }
-    ensures length { result ≡ length (letter_text carried) }
-    ensures output { out.new ≡ sets out.old at (letter_text carried) }
+    ensures length { result ≡ length (letter_text (Some letter)) }
+    ensures output { out.new ≡ sets out.old at (letter_text (Some letter)) }
 {
-    let name = name_of(carried);
+    let name = name_of(letter);
     let end = at + 1 + name.len();
     out[at] = b' ';
     out[at + 1..end].copy_from_slice(name);
@@ -79,12 +78,11 @@ pub fn letter_line(place: u64, bits: u32, out: &mut [u8]) -> usize
     if out.len() < 29 {
         return 0;
     }
-    let carried = block::letter_of(bits);
-    if block::place_of(carried) == 0 {
+    let Some(letter) = block::letter_of(bits) else {
         return 0;
-    }
+    };
     let digits = put_number(place, out);
-    let behind = digits + put_letter(carried, digits, out);
+    let behind = digits + put_letter(letter, digits, out);
     put_info((bits / 1024) as u16, behind, out);
     behind + 6
 }

@@ -3,10 +3,6 @@ use borrow.Author.Rules.{rules}
 use Rattle.print.specs.Letters.{letter_text}
 use Rattle.print.proofs.letters.name_of.Goals as goal
 
-pub returns-in-None : goal.returns-in-None
-unfolding letter_text
-returns-in-None c = rw c.in-None.is (search rules)
-
 pub returns-in-A : goal.returns-in-A
 unfolding letter_text
 returns-in-A c = rw c.in-A.is (search rules)
