@@ -1,5 +1,5 @@
 -- The on-air writer (paper 01, "Numbers given back": on-air writer; 000, 6.3 and table 22): a packet as frames on air.
-use Rattle.std.specs.Prelude.{Bool, cond, not, ◌&&◌, List, [], ◌∷◌, ◌++◌, ℕ, zero, suc, ◌+◌, ◌*◌, ◌/◌, ◌%◌, ◌^◌, length, get_or, drop, eqb, leb, ltb}
+use Rattle.std.specs.Prelude.{Result, Bool, cond, not, ◌&&◌, List, [], ◌∷◌, ◌++◌, ℕ, zero, suc, ◌+◌, ◌*◌, ◌/◌, ◌%◌, ◌^◌, length, get_or, drop, eqb, leb, ltb}
 use Rattle.laws.specs.Refusals.{Case, first}
 use Rattle.crc.specs.Crc16.{crc16}
 use Rattle.size.specs.Size.{packet_size}
@@ -8,7 +8,8 @@ use Rattle.frame.specs.declared.Number.{Number}
 use Rattle.frame.specs.declared.Heading.{Heading}
 use Rattle.frame.specs.Heading.{reserved, heading_bytes}
 use Rattle.frame.specs.OnAir.{stream_of}
-use Rattle.air.specs.declared.Aired.{Aired}
+use Rattle.refusal.specs.declared.Refusal.{Refusal}
+use Rattle.refusal.specs.Refusal.{answer_of as answer_in, value_or}
 
 -- how many frames P bytes take: the least N with 4N no less than P + 2 (01, on-air writer)
 unfoldable pub frames_for : ℕ → ℕ
@@ -62,6 +63,15 @@ cases packet level version out =
 -- the number given back (01, Numbers given back)
 unfoldable pub answer_of : List ℕ → ℕ → ℕ → List ℕ → ℕ
 answer_of packet level version out = first (cases packet level version out)
+
+-- a number given back and a count of frames
+pub record Aired : Type 0 where
+  pub answer : ℕ
+  pub frames : ℕ
+
+-- the two that a result tells: beside a refusal the count is 0 (01, on-air writer)
+abbrev pub told : Result ℕ Refusal → Aired
+told r = record { answer = answer_in r; frames = value_or 0 r }
 
 -- the count of frames beside 0, and 0 beside a refusal (01, on-air writer)
 unfoldable pub aired_of : List ℕ → ℕ → ℕ → List ℕ → Aired

@@ -8,17 +8,11 @@ ghost use Rattle.crc.specs.Crc16.{crc16};
 ghost use Rattle.frame.specs.Heading.{Fits};
 ghost use Rattle.frame.specs.OnAir.{air_bytes, stream_of};
 ghost use Rattle.air.specs.Packed.{packed, first_word, WordOf, Room, Sendable};
-ghost use Rattle.air.specs.OnAir.{total_for, carried, frame_of, frames_of, sized, aired_of, aired_into};
+ghost use Rattle.air.specs.OnAir.{total_for, carried, frame_of, frames_of, sized, told, aired_of, aired_into};
 
 use block::Letter;
 use frame::{Heading, Number, Total};
-
-// What the on-air writer gives back: its answer, and how many frames it wrote.
-#[derive(Clone, Copy)]
-pub struct Aired {
-    pub answer: u8,
-    pub frames: usize,
-}
+use refusal::Refusal;
 
 // The total of a packet's frames: the least N with 4N no less than P + 2.
 fn total_for(size: usize) -> Total
@@ -144,42 +138,24 @@ fn put_frames(packet: &[u8], level: u8, version: u8, out: &mut [u8])
     }
 }
 
-// The packet on air as frames of the level and version: 20, 13, 27 or 10 where it is refused, else 0 and the count of frames.
-pub fn on_air(packet: &[u8], level: u8, version: u8, out: &mut [u8]) -> Aired
-    ensures answer { result ≡ aired_of packet.now level version out.old }
+// The packet on air as frames of the level and version, and the count of them.
+pub fn on_air(packet: &[u8], level: u8, version: u8, out: &mut [u8]) -> Result<usize, Refusal>
+    ensures answer { told result ≡ aired_of packet.now level version out.old }
     ensures output { out.new ≡ aired_into packet.now level version out.old }
 {
     if !right_size(packet) {
-        return Aired {
-            answer: 20,
-            frames: 0,
-        };
+        return Err(Refusal::PacketSize);
     }
-    if level == 0 {
-        return Aired {
-            answer: 13,
-            frames: 0,
-        };
-    }
-    if level >= 7 {
-        return Aired {
-            answer: 13,
-            frames: 0,
-        };
+    if level == 0 || level >= 7 {
+        return Err(Refusal::Level);
     }
     if version > 31 {
-        return Aired {
-            answer: 27,
-            frames: 0,
-        };
+        return Err(Refusal::Range);
     }
     let frames = total_for(packet.len()).0 as usize;
     if out.len() < 13 * frames {
-        return Aired {
-            answer: 10,
-            frames: 0,
-        };
+        return Err(Refusal::Room);
     }
     put_frames(packet, level, version, out);
-    Aired { answer: 0, frames }
+    Ok(frames)
 }

@@ -14,7 +14,8 @@ use Rattle.laws.proofs.Cases.{if_yes, if_no, or_yes, or_no}
 use Rattle.laws.proofs.Elements.{by_test}
 use Rattle.laws.proofs.Xor.{xor_undo}
 use Rattle.block.specs.Block.{syndrome, carries}
-use Rattle.block.specs.Letters.{AnyLetter, offset_of_any, fits}
+use Rattle.block.specs.declared.AnyLetter.{AnyLetter}
+use Rattle.block.specs.Letters.{offset_of_any, fits}
 use Rattle.block.specs.Damage.{bit_at, OneOrTwo, WithinTen, Altered}
 use Rattle.block.proofs.Errors.{change, burst, pair}
 use Rattle.block.proofs.Letters.{within}

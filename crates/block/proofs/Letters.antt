@@ -12,10 +12,11 @@ use Rattle.laws.proofs.Elements.{by_test}
 use Rattle.laws.proofs.Xor.{xor_undo}
 use Rattle.block.specs.declared.Letter.{Letter}
 use Rattle.block.specs.declared.Letter.TheVariants as frame
-use Rattle.block.specs.declared.Carried.{Carried}
-use Rattle.block.specs.declared.Carried.TheVariants as carried
+use Rattle.std.specs.Prelude.{Option, Some, None}
+use Rattle.block.specs.declared.AnyLetter.{AnyLetter}
+use Rattle.block.specs.declared.AnyLetter.TheVariants.{A, B, C, CPrime, D}
 use Rattle.block.specs.Block.{syndrome, check_word, carries, is_valid}
-use Rattle.block.specs.Letters.{AnyLetter, A, B, C, CPrime, D, any_of, offset_of_any, fits, one, first_of, letter_of, letter_with, word_of, likely_of, place_of}
+use Rattle.block.specs.Letters.{any_of, offset_of_any, fits, first_of, letter_of, letter_with, likely_of, place_of}
 use Rattle.block.proofs.Validity.{carries_remainder, by_parts}
 
 -- the same test at every letter finds the same letter
@@ -43,12 +44,12 @@ unfolding carries
 within bits offset t = and_left (ltb bits (2 ^ 26)) (eqb (check_word (bits / 2 ^ 10) offset) (bits % 2 ^ 10)) t
 
 -- what is no 26 bits carries none
-pub wide_none : (bits : ℕ) → 2 ^ 26 ≤ bits → letter_of bits ≡ carried.None
+pub wide_none : (bits : ℕ) → 2 ^ 26 ≤ bits → letter_of bits ≡ None
 unfolding letter_of fits carries first_of
 wide_none bits h = first_same (fits bits) (λ x. false) (λ x. and_no _ (le-ltb bits (2 ^ 26) h))
 
 -- the five offset words lead back to their letters, so they differ
-pub own_letter : (x : AnyLetter) → letter_with (offset_of_any x) ≡ one x
+pub own_letter : (x : AnyLetter) → letter_with (offset_of_any x) ≡ Some x
 unfolding letter_with first_of
 own_letter A = refl
 own_letter B = refl
@@ -65,46 +66,16 @@ likely_own C = refl
 likely_own CPrime = refl
 likely_own D = refl
 
-pub unlikely : (offset : ℕ) → (offset ≡ offset_of_any (likely_of offset) → ⊥) → letter_with offset ≡ carried.None
+pub unlikely : (offset : ℕ) → (offset ≡ offset_of_any (likely_of offset) → ⊥) → letter_with offset ≡ None
 unfolding letter_with first_of
 unlikely offset n =
     first_same (λ x. eqb offset (offset_of_any x)) (λ x. false) (λ x. ne_eqb offset (offset_of_any x) (λ e. n (e ∙ ap offset_of_any (sym (ap likely_of e ∙ likely_own x)))))
 
-abbrev found : Carried → AnyLetter
-found carried.None = A
-found carried.A = A
-found carried.B = B
-found carried.C = C
-found carried.CPrime = CPrime
-found carried.D = D
+none_no_one : (x : AnyLetter) → None ≡ Some x → ⊥
+none_no_one x e = cc
 
--- the letter of an answer that names one
-own_found : (x : AnyLetter) → found (one x) ≡ x
-own_found A = refl
-own_found B = refl
-own_found C = refl
-own_found CPrime = refl
-own_found D = refl
-
-pub own_word : (x : AnyLetter) → word_of (one x) ≡ offset_of_any x
-own_word A = refl
-own_word B = refl
-own_word C = refl
-own_word CPrime = refl
-own_word D = refl
-
-some_word : (x : AnyLetter) → 0 < offset_of_any x
-some_word A = omega arith
-some_word B = omega arith
-some_word C = omega arith
-some_word CPrime = omega arith
-some_word D = omega arith
-
-none_no_one : (x : AnyLetter) → carried.None ≡ one x → ⊥
-none_no_one x e = let n : 0 ≡ offset_of_any x = ap word_of e ∙ own_word x in omega (arith, some_word x)
-
-same_one : (x y : AnyLetter) → one x ≡ one y → x ≡ y
-same_one x y e = sym (own_found x) ∙ ap found e ∙ own_found y
+same_one : (x y : AnyLetter) → Some x ≡ Some y → x ≡ y
+same_one x y e = cc
 
 -- At most one of the five letters fits any number.
 pub at_most_one : (bits : ℕ) (x y : AnyLetter) → fits bits x ≡ true → fits bits y ≡ true → x ≡ y
@@ -113,7 +84,7 @@ at_most_one bits x y p q =
     same_one x y (sym (own_letter x) ∙ ap letter_with (sym (carries_remainder bits (offset_of_any x) p) ∙ carries_remainder bits (offset_of_any y) q) ∙ own_letter y)
 
 -- what `first_of` finds has passed: of five tests, the one that decided
-passed : (p : AnyLetter → Bool) (x : AnyLetter) → first_of p ≡ one x → p x ≡ true
+passed : (p : AnyLetter → Bool) (x : AnyLetter) → first_of p ≡ Some x → p x ≡ true
 unfolding first_of
 passed p x e =
     by_test (p A) (λ t. at A t (if_yes _ _ t))
@@ -123,15 +94,15 @@ passed p x e =
     (λ k. by_test (p D) (λ t. at D t (if_no _ _ a ∙ if_no _ _ b ∙ if_no _ _ c ∙ if_no _ _ k ∙ if_yes _ _ t))
     (λ d. absurd (none_no_one x (sym (if_no _ _ a ∙ if_no _ _ b ∙ if_no _ _ c ∙ if_no _ _ k ∙ if_no _ _ d) ∙ e)))))))
   where
-    at : (y : AnyLetter) → p y ≡ true → first_of p ≡ one y → p x ≡ true
+    at : (y : AnyLetter) → p y ≡ true → first_of p ≡ Some y → p x ≡ true
     at y t f = subst (λ (z : AnyLetter). p z ≡ true) (same_one y x (sym f ∙ e)) t
 
 -- The answer is a letter exactly when that letter fits,
-pub carried_exact : (bits : ℕ) (x : AnyLetter) → (letter_of bits ≡ one x) ↔ (fits bits x ≡ true)
+pub carried_exact : (bits : ℕ) (x : AnyLetter) → (letter_of bits ≡ Some x) ↔ (fits bits x ≡ true)
 unfolding letter_of fits
 carried_exact bits x = (passed (fits bits) x, back)
   where
-    back : fits bits x ≡ true → letter_of bits ≡ one x
+    back : fits bits x ≡ true → letter_of bits ≡ Some x
     back t =
         let h : bits < 2 ^ 26 = ltb-true bits (2 ^ 26) (within bits (offset_of_any x) t) in
         letter_by_offset bits h
@@ -139,7 +110,7 @@ carried_exact bits x = (passed (fits bits) x, back)
         ∙ own_letter x
 
 -- and none exactly when none of the five does.
-pub none_exact : (bits : ℕ) → (letter_of bits ≡ carried.None) ↔ ((x : AnyLetter) → fits bits x ≡ false)
+pub none_exact : (bits : ℕ) → (letter_of bits ≡ None) ↔ ((x : AnyLetter) → fits bits x ≡ false)
 unfolding letter_of first_of
 none_exact bits =
     (λ e x. by_test (fits bits x) (λ t. absurd (none_no_one x (sym e ∙ (carried_exact bits x).1 t))) (λ f. f), λ n. first_same (fits bits) (λ x. false) n)
@@ -153,24 +124,24 @@ valid_letter bits frame.C = refl
 valid_letter bits frame.D = refl
 
 -- the six places lead back to their answers, so they differ
-abbrev answer_at : ℕ → Carried
+abbrev answer_at : ℕ → Option AnyLetter
 answer_at p =
-    cond (eqb p 1) carried.A (cond (eqb p 2) carried.B (cond (eqb p 3) carried.C (cond (eqb p 4) carried.D (cond (eqb p 5) carried.CPrime carried.None))))
+    cond (eqb p 1) (Some A) (cond (eqb p 2) (Some B) (cond (eqb p 3) (Some C) (cond (eqb p 4) (Some D) (cond (eqb p 5) (Some CPrime) None))))
 
-own_place : (c : Carried) → answer_at (place_of c) ≡ c
-own_place carried.None = refl
-own_place carried.A = refl
-own_place carried.B = refl
-own_place carried.C = refl
-own_place carried.D = refl
-own_place carried.CPrime = refl
+own_place : (c : Option AnyLetter) → answer_at (place_of c) ≡ c
+own_place None = refl
+own_place (Some A) = refl
+own_place (Some B) = refl
+own_place (Some C) = refl
+own_place (Some D) = refl
+own_place (Some CPrime) = refl
 
 -- A reader that expects a letter may ask for it in the answer, by its place in a frame.
-pub asked : (bits : ℕ) (letter : Letter) → is_valid bits letter ≡ eqb (place_of (letter_of bits)) (place_of (one (any_of letter)))
+pub asked : (bits : ℕ) (letter : Letter) → is_valid bits letter ≡ eqb (place_of (letter_of bits)) (place_of (Some (any_of letter)))
 asked bits letter =
     by_test (is_valid bits letter)
     (λ t. t ∙ sym (eq-eqb _ _ (ap place_of ((carried_exact bits (any_of letter)).1 (sym (valid_letter bits letter) ∙ t)))))
-    (λ f. f ∙ sym (ne_eqb (place_of (letter_of bits)) (place_of (one (any_of letter))) (λ e. false≢true (sym f ∙ valid_letter bits letter ∙ (carried_exact bits (any_of letter)).0 (sym (own_place (letter_of bits)) ∙ ap answer_at e ∙ own_place (one (any_of letter)))))))
+    (λ f. f ∙ sym (ne_eqb (place_of (letter_of bits)) (place_of (Some (any_of letter))) (λ e. false≢true (sym f ∙ valid_letter bits letter ∙ (carried_exact bits (any_of letter)).0 (sym (own_place (letter_of bits)) ∙ ap answer_at e ∙ own_place (Some (any_of letter)))))))
 
 -- At most one of a frame's letters fits any number.
 pub one_letter : (bits : ℕ) (k l : Letter) → is_valid bits k ≡ true → is_valid bits l ≡ true → k ≡ l

@@ -1,18 +1,10 @@
 -- Which of the five letters of RDS 26 bits carry (paper 02, K2; 000, 7.1.4 and annex A).
-use Rattle.std.specs.Prelude.{Bool, cond, ℕ, ◌/◌, ◌%◌, eqb}
+use Rattle.std.specs.Prelude.{Option, Some, None, Bool, cond, ℕ, ◌/◌, ◌%◌, eqb}
 use Rattle.block.specs.declared.Letter.{Letter}
 use Rattle.block.specs.declared.Letter.TheVariants as frame
-use Rattle.block.specs.declared.Carried.{Carried}
-use Rattle.block.specs.declared.Carried.TheVariants as carried
+use Rattle.block.specs.declared.AnyLetter.{AnyLetter}
+use Rattle.block.specs.declared.AnyLetter.TheVariants.{A, B, C, CPrime, D}
 use Rattle.block.specs.Block.{offset_of, carries}
-
--- the five letters
-pub data AnyLetter : Type 0 where
-  A : AnyLetter
-  B : AnyLetter
-  C : AnyLetter
-  CPrime : AnyLetter
-  D : AnyLetter
 
 -- a frame's letter among the five
 abbrev pub any_of : Letter → AnyLetter
@@ -33,39 +25,22 @@ offset_of_any D = offset_of frame.D
 unfoldable pub fits : ℕ → AnyLetter → Bool
 fits bits letter = carries bits (offset_of_any letter)
 
--- the answer that names a letter
-abbrev pub one : AnyLetter → Carried
-one A = carried.A
-one B = carried.B
-one C = carried.C
-one CPrime = carried.CPrime
-one D = carried.D
-
 -- the first of the five that passes a test, or none
-unfoldable pub first_of : (AnyLetter → Bool) → Carried
+unfoldable pub first_of : (AnyLetter → Bool) → Option AnyLetter
 first_of passes =
-    cond (passes A) (one A)
-    (cond (passes B) (one B)
-    (cond (passes C) (one C)
-    (cond (passes CPrime) (one CPrime)
-    (cond (passes D) (one D) carried.None))))
+    cond (passes A) (Some A)
+    (cond (passes B) (Some B)
+    (cond (passes C) (Some C)
+    (cond (passes CPrime) (Some CPrime)
+    (cond (passes D) (Some D) None))))
 
 -- the letter that the bits carry; `at_most_one` says that it does not matter which is looked at first
-unfoldable pub letter_of : ℕ → Carried
+unfoldable pub letter_of : ℕ → Option AnyLetter
 letter_of bits = first_of (fits bits)
 
 -- the letter that has the offset word
-unfoldable pub letter_with : ℕ → Carried
+unfoldable pub letter_with : ℕ → Option AnyLetter
 letter_with offset = first_of (λ letter. eqb offset (offset_of_any letter))
-
--- the offset word of an answer; 0, which is no letter's, for none (ours, between functions)
-abbrev pub word_of : Carried → ℕ
-word_of carried.None = 0
-word_of carried.A = offset_of_any A
-word_of carried.B = offset_of_any B
-word_of carried.C = offset_of_any C
-word_of carried.CPrime = offset_of_any CPrime
-word_of carried.D = offset_of_any D
 
 -- the one letter that an offset word can have, by three of its bits (ours, between functions)
 unfoldable pub likely_of : ℕ → AnyLetter
@@ -76,10 +51,10 @@ likely_of offset =
     (cond (eqb (offset / 32 % 8) 5) D A)))
 
 -- which block of a frame, 1 to 4, carries the letter; 5 for C', which stands in no frame of ours, and 0 for none (paper 01, "Blocks")
-abbrev pub place_of : Carried → ℕ
-place_of carried.None = 0
-place_of carried.A = 1
-place_of carried.B = 2
-place_of carried.C = 3
-place_of carried.D = 4
-place_of carried.CPrime = 5
+abbrev pub place_of : Option AnyLetter → ℕ
+place_of None = 0
+place_of (Some A) = 1
+place_of (Some B) = 2
+place_of (Some C) = 3
+place_of (Some D) = 4
+place_of (Some CPrime) = 5

@@ -3,7 +3,7 @@
 
 ghost use Rattle.std.specs.Prelude.{◌≡◌, ◌*◌, ◌^◌};
 ghost use Rattle.block.specs.Block.{syndrome, check_word, offset_of};
-ghost use Rattle.block.specs.Letters.{one, word_of, likely_of, letter_with, letter_of, place_of};
+ghost use Rattle.block.specs.Letters.{offset_of_any, likely_of, letter_with, letter_of, place_of};
 
 // Which of a frame's four blocks: the first is A.
 #[derive(Clone, Copy)]
@@ -62,61 +62,56 @@ pub fn remainder_of(info: u16) -> u16
     ((q ^ (w << 3) ^ (q << 5) ^ (w << 7)) % 1024) as u16
 }
 
-// What 26 bits carry: the block of one of the five letters that the standard knows, or none. A frame of ours has no C'.
+// The five letters that the standard knows. A frame of ours has no C'.
 #[derive(Clone, Copy)]
-pub enum Carried {
-    None,
+pub enum AnyLetter {
     A,
     B,
     C,
-    D,
     CPrime,
+    D,
 }
 
-// The offset word of the letter carried; 0, which is no letter's, for none.
-fn word_of(carried: Carried) -> u16
-    ensures { result ≡ word_of carried }
+// The offset word of any letter.
+fn offset_of_any(letter: AnyLetter) -> u16
+    ensures { result ≡ offset_of_any letter }
 {
-    match carried {
-        Carried::None => 0,
-        Carried::A => offset_of(Letter::A),
-        Carried::B => offset_of(Letter::B),
-        Carried::C => offset_of(Letter::C),
-        Carried::D => offset_of(Letter::D),
-        Carried::CPrime => 0x350,
+    match letter {
+        AnyLetter::A => offset_of(Letter::A),
+        AnyLetter::B => offset_of(Letter::B),
+        AnyLetter::C => offset_of(Letter::C),
+        AnyLetter::CPrime => 0x350,
+        AnyLetter::D => offset_of(Letter::D),
     }
 }
 
 // The only letter that the offset word can have: three bits tell the five apart, so that one comparison is left.
-fn likely(offset: u16) -> Carried
-    ensures { result ≡ one (likely_of offset) }
+fn likely(offset: u16) -> AnyLetter
+    ensures { result ≡ likely_of offset }
 {
     match offset / 32 % 8 {
-        0 => Carried::A,
-        1 => Carried::A,
-        2 => Carried::CPrime,
-        3 => Carried::C,
-        4 => Carried::B,
-        5 => Carried::D,
-        6 => Carried::A,
-        _ => Carried::A,
+        2 => AnyLetter::CPrime,
+        3 => AnyLetter::C,
+        4 => AnyLetter::B,
+        5 => AnyLetter::D,
+        _ => AnyLetter::A,
     }
 }
 
 // The letter whose offset word it is.
-fn letter_with(offset: u16) -> Carried
+fn letter_with(offset: u16) -> Option<AnyLetter>
     ensures { result ≡ letter_with offset }
 {
     let letter = likely(offset);
-    if offset == word_of(letter) {
-        letter
+    if offset == offset_of_any(letter) {
+        Some(letter)
     } else {
-        Carried::None
+        None
     }
 }
 
 // Which letter's block the bits are; what has more than 26 bits is none.
-pub fn letter_of(bits: u32) -> Carried
+pub fn letter_of(bits: u32) -> Option<AnyLetter>
     ensures { result ≡ letter_of bits }
 {
     if bits < 0x400_0000 {
@@ -124,20 +119,20 @@ pub fn letter_of(bits: u32) -> Carried
         let check = (bits % 1024) as u16;
         letter_with(remainder_of(info) ^ check)
     } else {
-        Carried::None
+        None
     }
 }
 
 // Which block of a frame carries the letter, 1 to 4; 5 for C', which stands in no frame of ours, and 0 for none.
-pub fn place_of(carried: Carried) -> u32
-    ensures { result ≡ place_of carried }
+pub fn place_of(letter: Option<AnyLetter>) -> u32
+    ensures { result ≡ place_of letter }
 {
-    match carried {
-        Carried::None => 0,
-        Carried::A => 1,
-        Carried::B => 2,
-        Carried::C => 3,
-        Carried::D => 4,
-        Carried::CPrime => 5,
+    match letter {
+        None => 0,
+        Some(AnyLetter::A) => 1,
+        Some(AnyLetter::B) => 2,
+        Some(AnyLetter::C) => 3,
+        Some(AnyLetter::D) => 4,
+        Some(AnyLetter::CPrime) => 5,
     }
 }

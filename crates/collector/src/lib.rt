@@ -216,14 +216,13 @@ pub fn offer(collector: Holdings, frame: &[u8]) -> Outcome
             collector,
         };
     }
-    let h = frame::heading_of(frame);
-    if h.answer != 0 {
-        return Outcome {
-            answer: h.answer,
+    match frame::heading_of(frame) {
+        Ok(heading) => take_in(collector, piece_of(heading, frame)),
+        Err(refusal) => Outcome {
+            answer: refusal.number(),
             collector,
-        };
+        },
     }
-    take_in(collector, piece_of(h.heading, frame))
 }
 
 fn piece_of(heading: Heading, frame: &[u8]) -> Piece

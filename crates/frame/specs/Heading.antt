@@ -1,12 +1,13 @@
 -- The heading of a frame (paper 01, "Frame heading"; 000, table 22), read from the frame's bits.
 -- Block 1: level 3 bits, version 5, total 6, number's high 2. Block 2: 10110, 000000, 0, number's low 4.
-use Rattle.std.specs.Prelude.{Bool, cond, not, ◌&&◌, ◌||◌, List, [], ◌∷◌, ◌++◌, ℕ, ◌+◌, ◌*◌, ◌/◌, ◌%◌, ◌^◌, ◌<◌, length, eqb, leb}
+use Rattle.std.specs.Prelude.{Result, Bool, cond, not, ◌&&◌, ◌||◌, List, [], ◌∷◌, ◌++◌, ℕ, ◌+◌, ◌*◌, ◌/◌, ◌%◌, ◌^◌, ◌<◌, length, eqb, leb}
 use Rattle.laws.specs.Bits.{at, bits_of, bits, bytes}
 use Rattle.laws.specs.Refusals.{Case, first}
 use Rattle.frame.specs.declared.Total.{Total}
 use Rattle.frame.specs.declared.Number.{Number}
 use Rattle.frame.specs.declared.Heading.{Heading}
-use Rattle.frame.specs.declared.Headed.{Headed}
+use Rattle.refusal.specs.declared.Refusal.{Refusal}
+use Rattle.refusal.specs.Refusal.{answer_of, value_or}
 
 -- ---- what the bits say
 
@@ -56,6 +57,14 @@ heading_fields f = record { level = level_of f; version = version_of f; total = 
 -- beside a refusal every field is zero (01, Numbers given back)
 abbrev pub no_heading : Heading
 no_heading = record { level = 0; version = 0; total = record { 0 = 0 }; number = record { 0 = 0 } }
+
+-- a number given back and a heading, as a result tells them
+pub record Headed : Type 0 where
+  pub answer : ℕ
+  pub heading : Heading
+
+abbrev pub told : Result Heading Refusal → Headed
+told r = record { answer = answer_of r; heading = value_or no_heading r }
 
 -- the answer, and the fields where it is 0
 unfoldable pub heading_of : List ℕ → Headed

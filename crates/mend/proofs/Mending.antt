@@ -9,7 +9,7 @@ use Rattle.laws.proofs.Xor.{xor_cancel}
 use Rattle.block.specs.declared.Letter.{Letter}
 use Rattle.block.specs.declared.Letter.TheVariants.{A}
 use Rattle.block.specs.Block.{syndrome, check_word, carries, is_valid}
-use Rattle.mend.specs.declared.Outcome.{Outcome}
+use Rattle.mend.specs.Mend.{Outcome}
 use Rattle.mend.specs.Mend.{same_but, near, fits, sought, mended_of}
 use Rattle.mend.proofs.Near.{narrow_near}
 use Rattle.mend.proofs.Search.{used}

@@ -1,8 +1,8 @@
 -- Which block is used for 26 bits that may hold a short burst (paper 02, K10).
-use Rattle.std.specs.Prelude.{Bool, true, false, cond, not, ◌&&◌, ◌||◌, ℕ, zero, suc, ◌+◌, ◌/◌, ◌%◌, ◌^◌, eqb}
+use Rattle.std.specs.Prelude.{Option, Some, None, Bool, true, false, cond, not, ◌&&◌, ◌||◌, ℕ, zero, suc, ◌+◌, ◌/◌, ◌%◌, ◌^◌, eqb}
 use Rattle.block.specs.declared.Letter.{Letter}
 use Rattle.block.specs.Block.{is_valid}
-use Rattle.mend.specs.declared.Outcome.{Outcome}
+use Rattle.mend.specs.declared.Mended.{Mended}
 
 -- two numbers are the same but for the five neighbouring bits of which the lowest is bit k: below bit k they are the same, and from bit k + 5 on
 unfoldable pub same_but : ℕ → ℕ → ℕ → Bool
@@ -21,8 +21,19 @@ within_five a b = near 22 a b
 unfoldable pub fits : ℕ → Letter → ℕ → Bool
 fits bits letter block = is_valid block letter && within_five block bits
 
+-- what mending comes to: whether there is a block to use, whether a bit of it was changed, and it
+pub record Outcome : Type 0 where
+  pub found : Bool
+  pub changed : Bool
+  pub block : ℕ
+
 abbrev pub nothing : Outcome
 nothing = record { found = false; changed = false; block = 0 }
+
+-- what the code gives back for it
+abbrev pub told : Option Mended → Outcome
+told None = nothing
+told (Some m) = record { found = true; changed = m.changed; block = m.block }
 
 -- of the numbers below n the one that fits, and whether it is another number than the bits; or nothing
 unfoldable pub sought : ℕ → ℕ → Letter → Outcome

@@ -11,21 +11,22 @@ use borrow.Author.Tests.{lt-ltb, le-ltb, eq-eqb, ne_eqb, ltb-true, ltb-false}
 use Rattle.laws.proofs.Cases.{if_yes, if_no}
 use Rattle.laws.proofs.Elements.{by_test}
 use Rattle.laws.proofs.Writes.{join, from_front}
-use Rattle.block.specs.declared.Carried.{Carried}
-use Rattle.block.specs.declared.Carried.TheVariants.{None, A, B, C, D, CPrime}
+use Rattle.std.specs.Prelude.{Option, Some, None}
+use Rattle.block.specs.declared.AnyLetter.{AnyLetter}
+use Rattle.block.specs.declared.AnyLetter.TheVariants.{A, B, C, D, CPrime}
 use Rattle.block.specs.Letters.{letter_of, place_of}
 use Rattle.block.proofs.Letters.{wide_none}
 use Rattle.print.specs.Letters.{number_text, letter_text, info_text, letter_line, letter_written, letter_output}
 use Rattle.print.proofs.Numbers.{at_most_20}
 
-pub letter_short : (c : Carried) → length (letter_text c) ≤ 3
+pub letter_short : (c : Option AnyLetter) → length (letter_text c) ≤ 3
 unfolding letter_text
 letter_short None = omega arith
-letter_short A = omega arith
-letter_short B = omega arith
-letter_short C = omega arith
-letter_short D = omega arith
-letter_short CPrime = omega arith
+letter_short (Some A) = omega arith
+letter_short (Some B) = omega arith
+letter_short (Some C) = omega arith
+letter_short (Some D) = omega arith
+letter_short (Some CPrime) = omega arith
 
 pub info_length : (info : ℕ) → length (info_text info) ≡ 6
 unfolding info_text
@@ -35,6 +36,13 @@ info_length info = refl
 pub within : (bits : ℕ) → (place_of (letter_of bits) ≡ 0 → ⊥) → bits < 2 ^ 26
 within bits h =
     by_test (ltb bits (2 ^ 26)) (λ t. ltb-true bits (2 ^ 26) t) (λ f. absurd (h (ap place_of (wide_none bits (ltb-false bits (2 ^ 26) f)))))
+
+pub some_place : (x : AnyLetter) → place_of (Some x) ≡ 0 → ⊥
+some_place A e = omega arith
+some_place B e = omega arith
+some_place C e = omega arith
+some_place D e = omega arith
+some_place CPrime e = omega arith
 
 module _ (place bits : ℕ) (out : List ℕ) where
   pub short : length out < 29 → (0 ≡ letter_written place bits out) × (out ≡ letter_output place bits out)

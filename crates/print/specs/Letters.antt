@@ -1,7 +1,7 @@
 -- The lines of the letters program (paper 02, K2): a place, the letter that 26 bits carry there, their information in hex.
-use Rattle.std.specs.Prelude.{cond, List, [], ◌∷◌, ◌++◌, ℕ, zero, suc, ◌+◌, ◌/◌, ◌%◌, ◌^◌, length, drop, ltb, eqb}
-use Rattle.block.specs.declared.Carried.{Carried}
-use Rattle.block.specs.declared.Carried.TheVariants.{None, A, B, C, D, CPrime}
+use Rattle.std.specs.Prelude.{Option, Some, None, cond, List, [], ◌∷◌, ◌++◌, ℕ, zero, suc, ◌+◌, ◌/◌, ◌%◌, ◌^◌, length, drop, ltb, eqb}
+use Rattle.block.specs.declared.AnyLetter.{AnyLetter}
+use Rattle.block.specs.declared.AnyLetter.TheVariants.{A, B, C, D, CPrime}
 use Rattle.block.specs.Letters.{letter_of, place_of}
 use Rattle.print.specs.Lines.{glyph}
 
@@ -22,13 +22,13 @@ unfoldable pub number_into : ℕ → List ℕ → List ℕ
 number_into n out = cond (ltb (length out) 20) out (number_text n ++ drop (length (number_text n)) out)
 
 -- a space and the letter's name
-unfoldable pub letter_text : Carried → List ℕ
+unfoldable pub letter_text : Option AnyLetter → List ℕ
 letter_text None = 32 ∷ []
-letter_text A = 32 ∷ 65 ∷ []
-letter_text B = 32 ∷ 66 ∷ []
-letter_text C = 32 ∷ 67 ∷ []
-letter_text D = 32 ∷ 68 ∷ []
-letter_text CPrime = 32 ∷ 67 ∷ 39 ∷ []
+letter_text (Some A) = 32 ∷ 65 ∷ []
+letter_text (Some B) = 32 ∷ 66 ∷ []
+letter_text (Some C) = 32 ∷ 67 ∷ []
+letter_text (Some D) = 32 ∷ 68 ∷ []
+letter_text (Some CPrime) = 32 ∷ 67 ∷ 39 ∷ []
 
 -- a space, sixteen bits in upper-case hex, the line's end
 unfoldable pub info_text : ℕ → List ℕ

@@ -1,10 +1,10 @@
 // What the letters program prints of 26 bits that carry a letter.
-ghost use Rattle.std.specs.Prelude.{◌≡◌, ◌+◌, ◌/◌, ◌%◌, ◌<◌, ◌≤◌, length};
+ghost use Rattle.std.specs.Prelude.{Some, ◌≡◌, ◌+◌, ◌/◌, ◌%◌, ◌<◌, ◌≤◌, length};
 ghost use Rattle.std.proofs.lemmas.List.Edits.{sets};
 ghost use Rattle.print.specs.Letters.{number_text, number_written, number_into, letter_text, info_text, letter_written, letter_output};
 
 use crate::hex_glyph;
-use block::Carried;
+use block::AnyLetter;
 
 // The number's digits from the output's start, and how many.
 fn put_number(n: u64, out: &mut [u8]) -> usize
@@ -34,31 +34,30 @@ pub fn number(n: u64, out: &mut [u8]) -> usize
 }
 
 // A space and the letter's name from a byte on, and how many bytes.
-fn put_letter(carried: Carried, at: usize, out: &mut [u8]) -> usize
+fn put_letter(letter: AnyLetter, at: usize, out: &mut [u8]) -> usize
     requires { at + 3 ≤ length out.old }
-    ensures length { result ≡ length (letter_text carried) }
-    ensures output { out.new ≡ sets out.old at (letter_text carried) }
+    ensures length { result ≡ length (letter_text (Some letter)) }
+    ensures output { out.new ≡ sets out.old at (letter_text (Some letter)) }
 {
     out[at] = 32;
-    match carried {
-        Carried::None => 1,
-        Carried::A => {
+    match letter {
+        AnyLetter::A => {
             out[at + 1] = 65;
             2
         }
-        Carried::B => {
+        AnyLetter::B => {
             out[at + 1] = 66;
             2
         }
-        Carried::C => {
+        AnyLetter::C => {
             out[at + 1] = 67;
             2
         }
-        Carried::D => {
+        AnyLetter::D => {
             out[at + 1] = 68;
             2
         }
-        Carried::CPrime => {
+        AnyLetter::CPrime => {
             out[at + 1] = 67;
             out[at + 2] = 39;
             3
@@ -88,12 +87,11 @@ pub fn letter_line(place: u64, bits: u32, out: &mut [u8]) -> usize
     if out.len() < 29 {
         return 0;
     }
-    let carried = block::letter_of(bits);
-    if block::place_of(carried) == 0 {
+    let Some(letter) = block::letter_of(bits) else {
         return 0;
-    }
+    };
     let digits = put_number(place, out);
-    let behind = digits + put_letter(carried, digits, out);
+    let behind = digits + put_letter(letter, digits, out);
     put_info((bits / 1024) as u16, behind, out);
     behind + 6
 }

@@ -14,7 +14,7 @@ use Rattle.laws.specs.Refusals.{first}
 use Rattle.laws.proofs.Bits.{Under}
 use Rattle.laws.proofs.Cases.{if_yes, if_no, and_no, or_no}
 use Rattle.laws.proofs.Elements.{by_test}
-use Rattle.frame.specs.declared.Headed.{Headed}
+use Rattle.frame.specs.Heading.{Headed}
 use Rattle.frame.specs.declared.Heading.{Heading}
 use Rattle.frame.specs.Heading.{refusals, heading_fields, heading_of, accepted}
 use Rattle.frame.proofs.Back.{comes_back}

@@ -11,7 +11,7 @@ ghost use Rattle.samples.specs.Symbol.{decided};
 ghost use Rattle.samples.specs.Unrounded.{carried};
 ghost use Rattle.radio.specs.Radio.{sent_as, letter_number, verdict_number, decided_as};
 
-use block::Carried;
+use block::AnyLetter;
 use receiver::{Received, Receiver};
 use samples::{Pair, Verdict};
 
@@ -66,23 +66,25 @@ pub fn radio_on_air(packet: &[u8], level: u8, version: u8, out: &mut [u8]) -> Se
     ensures answer { result ≡ sent_as (aired_of packet.now level version out.old) }
     ensures out { out.new ≡ aired_into packet.now level version out.old }
 {
-    let aired = air::on_air(packet, level, version, out);
-    Sent {
-        answer: aired.answer,
-        frames: aired.frames,
+    match air::on_air(packet, level, version, out) {
+        Ok(frames) => Sent { answer: 0, frames },
+        Err(refusal) => Sent {
+            answer: refusal.number(),
+            frames: 0,
+        },
     }
 }
 
-fn letter_number(carried: Carried) -> u32
-    ensures { result ≡ letter_number carried }
+fn letter_number(letter: Option<AnyLetter>) -> u32
+    ensures { result ≡ letter_number letter }
 {
-    match carried {
-        Carried::None => 0,
-        Carried::A => 1,
-        Carried::B => 2,
-        Carried::C => 3,
-        Carried::CPrime => 4,
-        Carried::D => 5,
+    match letter {
+        None => 0,
+        Some(AnyLetter::A) => 1,
+        Some(AnyLetter::B) => 2,
+        Some(AnyLetter::C) => 3,
+        Some(AnyLetter::CPrime) => 4,
+        Some(AnyLetter::D) => 5,
     }
 }
 
@@ -107,9 +109,7 @@ fn product_of(verdict: Verdict) -> f64
     ensures { result ≡ carried verdict }
 {
     match verdict {
-        Verdict::Zero(product) => product,
-        Verdict::One(product) => product,
-        Verdict::Undecided(product) => product,
+        Verdict::Zero(product) | Verdict::One(product) | Verdict::Undecided(product) => product,
     }
 }
 

@@ -188,7 +188,7 @@ module _ (f : Kind) (b : List ℕ) (q : ℕ) where
           in
           cut_at ws xs i (lt-ltb i (length ws) n)
           ∙ ap (λ (y : ℕ). y % room (get_or ws i 0)) x
-          ∙ mod-eq_of_lt (roomy (get_or ws i 0) (get_or first i 0) (word_at ws i (each_kind _ all_fit f)) (held_at (row_of f).before b q i))
+          ∙ mod-eq_of_lt (roomy (get_or ws i 0) (get_or first i 0) (word_at ws i (each_kind (λ (g : Kind). all of_word (widths (row_of g).before)) all_fit f)) (held_at (row_of f).before b q i))
 
   -- the digits beside it: two writes, one behind the other, by the lines that code has for them
   pub digits_joined : (N A : List Line) (o o₁ o₂ : List ℕ) (p w x v y i r : ℕ) → N ≡ beside_of f → A ≡ (row_of f).after → o ≡ zeros 35 → p ≡ q + size (own_of f) → i ≡ need (row_of f).before - numbers_in f

@@ -13,7 +13,7 @@ use Rattle.laws.proofs.Bits.{at_small}
 use Rattle.block.specs.Block.{offset_of, syndrome}
 use Rattle.block.specs.declared.Letter.{Letter}
 use Rattle.block.specs.declared.Letter.TheVariants.{A, B, C, D}
-use Rattle.mend.specs.declared.Outcome.{Outcome}
+use Rattle.mend.specs.Mend.{Outcome}
 use Rattle.mend.specs.Mend.{mended_of}
 use Rattle.mend.specs.Table.{mended_by}
 use Rattle.mend.proofs.OnlyOne.{index_lt}

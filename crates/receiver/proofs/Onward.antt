@@ -17,7 +17,7 @@ use Rattle.laws.proofs.Cases.{and_yes, and_no, and_both}
 use Rattle.block.specs.Block.{is_valid}
 use Rattle.block.specs.declared.Letter.{Letter}
 use Rattle.block.specs.declared.Letter.TheVariants.{A, B, C, D}
-use Rattle.mend.specs.declared.Outcome.{Outcome}
+use Rattle.mend.specs.Mend.{Outcome}
 use Rattle.mend.specs.Mend.{mended_of}
 use Rattle.mend.proofs.OnlyOne.{valid_lt}
 use Rattle.receiver.specs.declared.searching.Found.{Found}

@@ -14,7 +14,7 @@ use Rattle.laws.proofs.Cases.{and_both}
 use Rattle.block.specs.declared.Letter.{Letter}
 use Rattle.block.specs.declared.Letter.TheVariants.{A, B, C, D}
 use Rattle.block.specs.Block.{is_valid}
-use Rattle.mend.specs.declared.Outcome.{Outcome}
+use Rattle.mend.specs.Mend.{Outcome}
 use Rattle.mend.specs.Mend.{within_five, fits, mended_of}
 use Rattle.mend.proofs.Search.{used}
 use Rattle.mend.proofs.OnlyOne.{fits_is, valid_lt, given_one, whole_stays}

@@ -149,15 +149,12 @@ fn mended_at(b: &[u8], end: usize, from: usize) -> Found
     let q = rests(y, Letter::C, Letter::D);
     let mut words: u64 = 0;
     let mut changed: u8 = 0;
-    let mut k: usize = 0;
-    while k < 4 {
-        let outcome = mend::mended_by(block_at(x, y, k), rest_at(p, q, k));
-        if !outcome.found {
+    for k in 0..4 {
+        let Some(mended) = mend::mended_by(block_at(x, y, k), rest_at(p, q, k)) else {
             return no_frame();
-        }
-        words = (words << 16) + (outcome.block / 1024) as u64;
-        changed += one(outcome.changed);
-        k += 1;
+        };
+        words = (words << 16) + (mended.block / 1024) as u64;
+        changed += one(mended.changed);
     }
     Found {
         frame: true,

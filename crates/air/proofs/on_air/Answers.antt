@@ -10,15 +10,18 @@ use Rattle.air.proofs.Answers.{sized_short, says_20, says_13, says_27, says_10, 
 use mathlib.Core.Path.{ap}
 use mathlib.Core.Bool.{not}
 use Rattle.air.proofs.on_air.Goals as goal
+use Rattle.air.proofs.on_air.Goals.{then-level-eq0-via-then-level-eq0, then-level-eq0-via-else-level-eq0+then-level-ge7}
 
 pub returns-then-not-right_size : goal.returns-then-not-right_size
 returns-then-not-right_size c = let all = says_20 _ _ _ _ (sym c.right_size.ensures ∙ not-true c.right_size.result (ap not c.if-not-right_size.true)) in record { answer = all.0; output = all.1 }
 
 pub returns-then-level-eq0 : goal.returns-then-level-eq0
-returns-then-level-eq0 c = let s : sized c.args.packet.now ≡ true = sym c.right_size.ensures ∙ not-false c.right_size.result (ap not c.if-not-right_size.false) in let all = says_13 _ _ _ _ s (reserved_low _ c.if-level-eq0.true) in record { answer = all.0; output = all.1 }
-
-pub returns-then-level-ge7 : goal.returns-then-level-ge7
-returns-then-level-ge7 c = let s : sized c.args.packet.now ≡ true = sym c.right_size.ensures ∙ not-false c.right_size.result (ap not c.if-not-right_size.false) in let all = says_13 _ _ _ _ s (reserved_high _ (omega arith)) in record { answer = all.0; output = all.1 }
+returns-then-level-eq0 c =
+    let s : sized c.args.packet.now ≡ true = sym c.right_size.ensures ∙ not-false c.right_size.result (ap not c.if-not-right_size.false) in
+    elim c.then-level-eq0.branch [
+      | then-level-eq0-via-then-level-eq0 w ↦ let all = says_13 _ _ _ _ s (reserved_low _ w.if-level-eq0.true) in record { answer = all.0; output = all.1 }
+      | then-level-eq0-via-else-level-eq0+then-level-ge7 w ↦ let all = says_13 _ _ _ _ s (reserved_high _ (omega arith)) in record { answer = all.0; output = all.1 }
+    ]
 
 pub returns-then-version-gt31 : goal.returns-then-version-gt31
 returns-then-version-gt31 c = let s : sized c.args.packet.now ≡ true = sym c.right_size.ensures ∙ not-false c.right_size.result (ap not c.if-not-right_size.false) in let all = says_27 _ _ _ _ s (reserved_no _ c.if-level-eq0.false (omega arith)) (omega arith) in record { answer = all.0; output = all.1 }

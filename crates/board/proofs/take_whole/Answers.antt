@@ -1,6 +1,6 @@
 -- `board::take_whole`: what its goals need. Assumes nothing.
 use mathlib.Core.Path.{sym, ap, ◌∙◌}
-use Rattle.frame.specs.declared.Headed.{Headed}
+use Rattle.frame.specs.Heading.{Headed}
 use Rattle.collector.specs.declared.Outcome.{Outcome}
 use Rattle.stories.specs.Tales.{zeros}
 use Rattle.board.specs.Board.{ready_for}

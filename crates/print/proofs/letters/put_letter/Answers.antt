@@ -24,13 +24,6 @@ bounds-out-at-in-CPrime c = simp length-set (omega arith)
 pub bounds-out-at-in-CPrime-2 : goal.bounds-out-at-in-CPrime-2
 bounds-out-at-in-CPrime-2 c = simp length-set (omega arith)
 
-pub returns-in-None : goal.returns-in-None
-unfolding letter_text
-returns-in-None c = record {
-  length = rw c.in-None.is refl;
-  output = rw c.in-None.is refl;
-}
-
 pub returns-in-A : goal.returns-in-A
 unfolding letter_text
 returns-in-A c = record {

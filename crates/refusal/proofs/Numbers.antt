@@ -1,0 +1,64 @@
+-- The numbers of refusals: none is that of a value, and no two are one. Assumes nothing.
+use mathlib.Core.Path.{◌≡◌, refl, sym, ap, ◌∙◌}
+use mathlib.Core.Bool.{cond}
+use Prim.Native.Nat.{ℕ}
+use native.Mathlib.Omega.{arith}
+use lib.Dec.{eqb}
+use Rattle.refusal.specs.declared.Refusal.{Refusal}
+use Rattle.refusal.specs.declared.Refusal.TheVariants as refusal
+use Rattle.refusal.specs.Refusal.{number_of}
+
+-- a refusal is not told as a value is
+pub some_number : (e : Refusal) → number_of e ≡ 0 → ⊥
+some_number refusal.Room z = omega arith
+some_number refusal.FixedBits z = omega arith
+some_number refusal.Level z = omega arith
+some_number refusal.Numbering z = omega arith
+some_number refusal.PacketSize z = omega arith
+some_number refusal.Length z = omega arith
+some_number refusal.Range z = omega arith
+some_number refusal.LoneByte z = omega arith
+some_number refusal.Parts z = omega arith
+some_number refusal.MessageNumber z = omega arith
+some_number refusal.Story z = omega arith
+some_number refusal.Shelf z = omega arith
+some_number refusal.Record z = omega arith
+some_number refusal.FullShelf z = omega arith
+
+-- each number leads back to its refusal
+abbrev refusal_of : ℕ → Refusal
+refusal_of n =
+    cond (eqb n 10) refusal.Room
+    (cond (eqb n 12) refusal.FixedBits
+    (cond (eqb n 13) refusal.Level
+    (cond (eqb n 14) refusal.Numbering
+    (cond (eqb n 20) refusal.PacketSize
+    (cond (eqb n 26) refusal.Length
+    (cond (eqb n 27) refusal.Range
+    (cond (eqb n 30) refusal.LoneByte
+    (cond (eqb n 31) refusal.Parts
+    (cond (eqb n 32) refusal.MessageNumber
+    (cond (eqb n 33) refusal.Story
+    (cond (eqb n 34) refusal.Shelf
+    (cond (eqb n 35) refusal.Record
+    refusal.FullShelf))))))))))))
+
+back : (e : Refusal) → refusal_of (number_of e) ≡ e
+back refusal.Room = refl
+back refusal.FixedBits = refl
+back refusal.Level = refl
+back refusal.Numbering = refl
+back refusal.PacketSize = refl
+back refusal.Length = refl
+back refusal.Range = refl
+back refusal.LoneByte = refl
+back refusal.Parts = refl
+back refusal.MessageNumber = refl
+back refusal.Story = refl
+back refusal.Shelf = refl
+back refusal.Record = refl
+back refusal.FullShelf = refl
+
+-- so an answer names one refusal
+pub same_number : (d e : Refusal) → number_of d ≡ number_of e → d ≡ e
+same_number d e h = sym (back d) ∙ ap refusal_of h ∙ back e

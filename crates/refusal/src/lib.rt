@@ -1,0 +1,73 @@
+// Why a function gives nothing back: the refusals of the papers, each with its listed number.
+#![tactic(auto)]
+
+ghost use Rattle.std.specs.Prelude.{◌≡◌};
+ghost use Rattle.refusal.specs.Refusal.{number_of};
+
+use std::error::Error;
+use std::fmt;
+
+// A refusal of a function that gives a value back where nothing is wrong.
+#[derive(Clone, Copy, Debug, PartialEq, Eq)]
+pub enum Refusal {
+    // The lent output is too short.
+    Room,
+    // The fixed bits of block 2 are wrong.
+    FixedBits,
+    // A level is reserved.
+    Level,
+    // A total is 0, or a number is not below its total.
+    Numbering,
+    // A packet is not of the size that it says, or of none that there is.
+    PacketSize,
+    // A length is wrong for its kind.
+    Length,
+    // A field is outside its range.
+    Range,
+    // A text's last byte begins a character of two.
+    LoneByte,
+    // A text is longer than nine parts.
+    Parts,
+    // A message number would run past 9999.
+    MessageNumber,
+    // Packets are not the parts of one story.
+    Story,
+    // A shelf is not one of whole records, or what is lent beside it is not of its size.
+    Shelf,
+    // A record is not as a record is.
+    Record,
+    // A shelf is full.
+    FullShelf,
+}
+
+impl Refusal {
+    // The number that the papers list.
+    pub fn number(self) -> u8
+        ensures { result ≡ number_of self }
+    {
+        match self {
+            Refusal::Room => 10,
+            Refusal::FixedBits => 12,
+            Refusal::Level => 13,
+            Refusal::Numbering => 14,
+            Refusal::PacketSize => 20,
+            Refusal::Length => 26,
+            Refusal::Range => 27,
+            Refusal::LoneByte => 30,
+            Refusal::Parts => 31,
+            Refusal::MessageNumber => 32,
+            Refusal::Story => 33,
+            Refusal::Shelf => 34,
+            Refusal::Record => 35,
+            Refusal::FullShelf => 36,
+        }
+    }
+}
+
+impl fmt::Display for Refusal {
+    fn fmt<W: fmt::Write>(&self, f: &mut fmt::Formatter<W>) -> fmt::Result {
+        write!(f, "{}", self.number())
+    }
+}
+
+impl Error for Refusal {}
