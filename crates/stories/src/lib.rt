@@ -96,11 +96,12 @@ fn unshown(answer: u8, s: Stories) -> Shown
 fn show(x: Part, n: usize, s: Stories) -> Shown
     ensures { result ≡ shown_with x n s }
 {
+    let number = x.number;
     Shown {
         answer: 1,
         length: n,
         parts: x.total,
-        number: x.number,
+        number,
         stories: s,
     }
 }
@@ -122,7 +123,7 @@ fn keep(s: Stories, x: Part, text: &[u8], out: &mut [u8]) -> Shown
     ensures output { out.new ≡ kept_output s x text.now out.old }
 {
     let (at, p) = find(s, x);
-    let k = usize::from(x.place);
+    let k = x.place as usize;
     if tales::repeats(p, k, text) {
         return unshown(5, s);
     }
@@ -153,7 +154,7 @@ pub fn take_in(stories: Stories, packet: &[u8], out: &mut [u8]) -> Shown
     let body = reader::body(packet);
     if !x.belongs {
         let n = body.len();
-        out[..n].copy_from_slice(body);
+        out[0..n].copy_from_slice(body);
         return show(x, n, stories);
     }
     keep(stories, x, &body[4..], out)

@@ -24,9 +24,10 @@ pub(crate) fn untold() -> Tale
 fn take(x: Part) -> Tale
     ensures { result ≡ taken_for x }
 {
+    let number = x.number;
     Tale {
         held: true,
-        number: x.number,
+        number,
         total: x.total,
         lengths: [0; 9],
         bytes: [0; 1341],
@@ -114,7 +115,7 @@ pub(crate) fn is_whole(p: Tale) -> bool
     requires { p.total ≤ 9 }
     ensures { result ≡ is_whole p }
 {
-    p.lengths[..usize::from(p.total)].iter().all(|n| *n != 0)
+    p.lengths[..p.total as usize].iter().all(|n| *n != 0)
 }
 
 // Puts the text of a part to byte `to` of the output, and says where the next one goes.
