@@ -36,10 +36,8 @@ pub fn check_word(info: u16, offset: u16) -> u16
 {
     let dividend = info as u32 * 1024;
     let mut rest: u16 = 0;
-    let mut bits_left: u32 = 26;
-    while bits_left > 0 {
-        bits_left -= 1;
-        let brought_down = (dividend >> bits_left) % 2;
+    for place in (0..26u32).rev() {
+        let brought_down = (dividend >> place) % 2;
         rest = rest * 2 + brought_down as u16;
         if rest >= 1024 {
             rest = rest ^ GENERATOR;
