@@ -1,4 +1,4 @@
-// Lines, and rows of them, as the table of contents is written.
+// Lines, and rows of them, as the table of contents is written: a function for each word of the table language, `format:Format`.
 ghost use Rattle.std.specs.Prelude.{◌≡◌, ◌+◌, ◌-◌, ◌^◌, ◌≤◌};
 ghost use Rattle.format.specs.Format.{num, only, any, ones, digits, octets};
 ghost use Rattle.packet.specs.declared.Counting.TheVariants as counting;
