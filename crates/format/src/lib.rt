@@ -92,6 +92,7 @@ fn small(b: &[u8], p: usize, w: usize) -> u8
     read_field(b, p, w) as u8
 }
 
+// By index, since a proof knows nothing of what is written through `get_mut`.
 fn put(out: &mut [u8], i: usize, v: u8)
     ensures { out.new ≡ set out.old i v }
 {

@@ -24,8 +24,6 @@ use Rattle.packet.specs.Columns.{single, digits_line, octet_line, column}
 use Rattle.reader.specs.Taking.{own_at, Digits, Octets, Each, Column}
 use Rattle.format.proofs.Leaves.{store_more, inside_more}
 use Rattle.format.proofs.Halves.{byte_at, high_half, low_half}
-use Rattle.std.specs.List.{list_all, range_with_len}
-use Rattle.std.proofs.lemmas.List.Folds.{list_all-append}
 
 -- ---- a number tested by its two ends
 pub within_yes : (h : Bool) (lo x hi : ℕ) → lo ≤ x → h ≡ leb x hi → h ≡ (leb lo x && leb x hi)
@@ -98,21 +96,6 @@ octet_piece b k s j x h e =
 pub single_inside : (l : List ℕ) (lo hi p c w : ℕ) → c ≡ 1 → inside lo hi (run l p c w) ≡ (leb lo (at l p w) && leb (at l p w) hi)
 unfolding run
 single_inside l lo hi p c w e = rw e (inside_one lo hi (at l p w))
-
--- a test of every number is one of a range
-pub every_range : (n : ℕ) (f : ℕ → Bool) → every n f ≡ list_all f (range_with_len 0 n)
-unfolding every
-every_range zero f = refl
-every_range (suc n) f =
-    ap (λ (y : Bool). y && f n) (every_range n f)
-    ∙ ap (λ (y : Bool). list_all f (range_with_len 0 n) && y) (sym (and-true (f n)))
-    ∙ sym (list_all-append f (range_with_len 0 n) (n ∷ []))
-    ∙ ap (λ (m : ℕ). list_all f (range_with_len 0 n ++ (m ∷ []))) (omega arith)
-    ∙ ap (list_all f) (sym (range_more 0 n))
-  where
-    range_more : (a m : ℕ) → range_with_len a (suc m) ≡ range_with_len a m ++ ((a + m) ∷ [])
-    range_more a zero = let e : a + 0 ≡ a = omega arith in rw e
-    range_more a (suc m) = let e : a + 1 + m ≡ a + suc m = omega arith in ap (λ (r : List ℕ). a ∷ r) (range_more (a + 1) m ∙ rw e)
 
 -- digits that end with byte e: where they are odd one by itself, then two a byte
 pub digits_even : (l : List ℕ) (e c : ℕ) → c ≤ 2 * e → c % 2 ≡ 0 → run l ((e - c / 2) * 8) (2 * (c / 2)) 4 ≡ run l (e * 8 - c * 4) c 4

@@ -2,7 +2,7 @@
 use mathlib.Core.Path.{◌≡◌, refl, sym, ap, ◌∙◌}
 use mathlib.Core.List.{List, [], ◌++◌}
 use mathlib.Core.Bool.{Bool, true, false, not, ◌&&◌, cond, and-true}
-use Prim.Native.Nat.{ℕ, ◌+◌, ◌-◌, ◌*◌, ◌/◌, ◌≤◌, ◌<◌}
+use Prim.Native.Nat.{ℕ, ◌+◌, ◌*◌, ◌/◌, ◌≤◌, ◌<◌}
 use native.Mathlib.Nat.{le_trans, mul-le-mul_left}
 use native.Mathlib.Omega.{arith}
 use lib.Dec.{ltb, eqb}
@@ -193,16 +193,16 @@ module _ (b : List ℕ) (n k : ℕ) (codes : n ≡ codes_in b) where
     pub text_end : text_answer b ≡ 0 → k ≡ count_of b → 3 + 12 * n + l / 8 + k ≤ length b
     text_end e f = let t = text_there b e in omega (arith, text_inside b (accepted b t.0) t.1, text_begins e, f)
 
-    pub text_part : text_answer b ≡ 0 → k ≡ count_of b → take (3 + 12 * n + l / 8 + k - (3 + 12 * n + l / 8)) (drop (3 + 12 * n + l / 8) b) ≡ text_of b
+    pub text_part : text_answer b ≡ 0 → k ≡ count_of b → take k (drop (3 + 12 * n + l / 8) b) ≡ text_of b
     unfolding text_of
-    text_part e f = let w : 3 + 12 * n + l / 8 + k - (3 + 12 * n + l / 8) ≡ k = omega arith in rw (w, text_begins e, e, f)
+    text_part e f = rw (text_begins e, e, f)
 
     pub body_end : read_answer b ≡ 0 → k ≡ cond (has_entries (kind_in b)) 0 (count_of b) → 3 + 12 * n + l / 8 + k ≤ length b
     body_end e f = rw (codes, lead, f) (omega (arith, body_inside b (accepted b e)))
 
-    pub body_part : read_answer b ≡ 0 → k ≡ cond (has_entries (kind_in b)) 0 (count_of b) → take (3 + 12 * n + l / 8 + k - (3 + 12 * n + l / 8)) (drop (3 + 12 * n + l / 8) b) ≡ body_of b
+    pub body_part : read_answer b ≡ 0 → k ≡ cond (has_entries (kind_in b)) 0 (count_of b) → take k (drop (3 + 12 * n + l / 8) b) ≡ body_of b
     unfolding body_of
-    body_part e f = let w : 3 + 12 * n + l / 8 + k - (3 + 12 * n + l / 8) ≡ k = omega arith in rw (w, e, f, lead, codes)
+    body_part e f = rw (e, f, lead, codes)
 
 -- the sizes of a kind's row, and how many at most
 pub record SizesOf (f : Kind) (z : Sizes) : Type 0 where

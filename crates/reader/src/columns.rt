@@ -88,7 +88,7 @@ fn tested_column(lo: u8, hi: u8, b: &[u8], k: usize, s: Spacing, out: &mut [u8],
     good
 }
 
-// The same; bytes of which none is wrong are only copied.
+// The same; bytes of which none is wrong are only copied, which is faster. The bounds are bytes, as a line's own are not.
 fn octet_column(lo: u8, hi: u8, b: &[u8], k: usize, s: Spacing, out: &mut [u8], i: usize) -> bool
     requires { Octets (length b.now) k s.bytes s.rows (length out.old) i s.places }
     ensures { (out.new ≡ strips out.old i s.places s.rows (λ (j : ℕ). run (bits b.now) (k * 8 + j * (s.bytes * 8)) 1 8)) × (result ≡ every s.rows (λ (j : ℕ). inside lo hi (run (bits b.now) (k * 8 + j * (s.bytes * 8)) 1 8))) }
@@ -155,7 +155,7 @@ fn take_column(t: Line, b: &[u8], p: usize, s: Spacing, out: &mut [u8], i: usize
     each_column(t, b, p, s, out, i)
 }
 
-// What a line is due whose numbers are as it says, or not; 255 where that is none.
+// What a line is due whose numbers are as it says, or not; 255 where that is none: the least of several is asked for, and `None` is the least.
 fn line_due(t: Line, good: bool) -> u8
     requires { asks t ≡ true }
     ensures { Judged (passing t good) result }
@@ -200,6 +200,7 @@ pub(crate) fn take_rows(ts: Lines, n: usize, b: &[u8], p: usize, out: &mut [u8],
     d
 }
 
+// By index, since a proof knows nothing of what is written through `get_mut`.
 fn put(out: &mut [u32], i: usize, x: u32)
     ensures { out.new ≡ set out.old i x }
 {

@@ -9,7 +9,8 @@ ghost use Rattle.std.specs.Prelude.{◌≡◌, ◌≤◌, length};
 ghost use Rattle.packet.specs.Reading.{opened, refused_as, read_answer, text_answer, text_of, body_of};
 ghost use Rattle.reader.specs.Taking.{Right, Blank, told_of, tells, unless_refused, Lined};
 
-use packet::{Content, Fields, Kind, Opened, RowLines, Sizes};
+use packet::{Content, Fields, Opened};
+use parts::Heading;
 
 // What a packet says, but for its codes, its entries and the digits beside its content, which go to arrays.
 #[derive(Clone, Copy)]
@@ -54,29 +55,19 @@ fn accepted(b: &[u8], n: usize, content: Content, certificate: [u8; 12]) -> Told
 }
 
 // A packet whose sizes are right: what its lines say, and what they are due.
-fn lines_told(
-    f: Kind,
-    s: RowLines,
-    z: Sizes,
-    n: usize,
-    k: usize,
-    b: &[u8],
-    codes: &mut [u8],
-    entries: &mut [u8],
-    digits: &mut [u8],
-) -> Told
-    requires { Right f s z n k b.now × Blank codes.old entries.old digits.old }
+fn lines_told(h: Heading, b: &[u8], codes: &mut [u8], entries: &mut [u8], digits: &mut [u8]) -> Told
+    requires { Right h.kind h.row h.sizes h.codes h.count b.now × Blank codes.old entries.old digits.old }
     ensures { Lined b.now result codes.new entries.new digits.new }
 {
-    let first = parts::take_codes(b, n, codes);
-    let c = parts::take_content(f, s, z, k, b, 24 + 96 * n, digits, entries);
+    let first = parts::take_codes(b, h.codes, codes);
+    let c = parts::take_content(h, b, 24 + 96 * h.codes, digits, entries);
     let mut certificate = parts::zeros();
     let good = columns::take_digits(b, b.len() - 64, 12, &mut certificate, 0);
     let a = refusals::lines_answer(first, good, c.due, packet::no_such_day(c.content));
     if a != 0 {
         return refused(a);
     }
-    accepted(b, n, c.content, certificate)
+    accepted(b, h.codes, c.content, certificate)
 }
 
 // What a packet says, and its arrays, which are of no use where it is refused.
@@ -87,19 +78,26 @@ fn filled(b: &[u8], codes: &mut [u8], entries: &mut [u8], digits: &mut [u8]) -> 
     if refusals::size_bad(b) {
         return refused(20);
     }
-    let f = parts::kind(b);
-    let s = table::row_of(f);
-    if refusals::unknown(s.counting) {
+    let kind = parts::kind(b);
+    let row = table::row_of(kind);
+    if refusals::unknown(row.counting) {
         return refused(23);
     }
-    let z = table::sizes_of(f);
+    let sizes = table::sizes_of(kind);
     let n = parts::codes_count(b);
     let m = parts::content_size(b);
-    let k = parts::count_at(s.counting, b, 16 + 96 * n + z.lead, m);
-    if refusals::length_bad(z, k, m) {
+    let count = parts::count_at(row.counting, b, 16 + 96 * n + sizes.lead, m);
+    if refusals::length_bad(sizes, count, m) {
         return refused(26);
     }
-    lines_told(f, s, z, n, k, b, codes, entries, digits)
+    let h = Heading {
+        kind,
+        row,
+        sizes,
+        codes: n,
+        count,
+    };
+    lines_told(h, b, codes, entries, digits)
 }
 
 // What a packet says, as `read` does, with its arrays in those that are lent, which stay as they were where it is refused.
@@ -187,9 +185,7 @@ pub fn text(packet: &[u8]) -> &[u8]
     ensures { result.now ≡ text_of packet.now }
 {
     if text_answer(packet) == 0 {
-        let from = 3 + 12 * parts::codes_count(packet) + parts::lead(packet) / 8;
-        let end = from + parts::count(packet);
-        &packet[from..end]
+        parts::behind_lead(packet, parts::count(packet))
     } else {
         &packet[0..0]
     }
@@ -200,9 +196,7 @@ pub fn body(packet: &[u8]) -> &[u8]
     ensures { result.now ≡ body_of packet.now }
 {
     if answer(packet) == 0 {
-        let from = 3 + 12 * parts::codes_count(packet) + parts::lead(packet) / 8;
-        let end = from + parts::bytes_count(packet);
-        &packet[from..end]
+        parts::behind_lead(packet, parts::bytes_count(packet))
     } else {
         &packet[0..0]
     }

@@ -1,5 +1,5 @@
 // The parts of a packet: heading, codes, content and what follows.
-ghost use Rattle.std.specs.Prelude.{◌≡◌, cond, [], ℕ, ◌+◌, ◌-◌, ◌*◌, ◌<◌, ◌≤◌, length, ltb};
+ghost use Rattle.std.specs.Prelude.{◌≡◌, cond, [], ℕ, ◌+◌, ◌-◌, ◌*◌, ◌/◌, ◌<◌, ◌≤◌, length, take, drop, ltb};
 ghost use Rattle.std.proofs.lemmas.List.Edits.{sets};
 ghost use Rattle.laws.specs.Bits.{at, run, bits};
 ghost use Rattle.format.specs.Format.{times, decode, fine};
@@ -93,6 +93,15 @@ pub(crate) fn bytes_count(b: &[u8]) -> usize
     }
 }
 
+// n bytes of the content, behind what stands before the row.
+pub(crate) fn behind_lead(b: &[u8], n: usize) -> &[u8]
+    requires { (3 + 12 * codes_in b.now + part_at (row_of (kind_in b.now)) / 8 + n ≤ length b.now) × (length b.now ≤ 250) }
+    ensures { result.now ≡ take n (drop (3 + 12 * codes_in b.now + part_at (row_of (kind_in b.now)) / 8) b.now) }
+{
+    let from = 3 + 12 * codes_count(b) + lead(b) / 8;
+    &b[from..from + n]
+}
+
 // ---- the codes
 // n of them, reserved bits and 23 digits each; what they are due.
 pub(crate) fn take_codes(b: &[u8], n: usize, out: &mut [u8]) -> u8
@@ -115,6 +124,16 @@ pub(crate) fn take_codes(b: &[u8], n: usize, out: &mut [u8]) -> u8
 }
 
 // ---- the content
+// What a packet's heading says: its kind, with row and sizes, how many codes it has, and how often its row stands.
+#[derive(Clone, Copy)]
+pub(crate) struct Heading {
+    pub(crate) kind: Kind,
+    pub(crate) row: RowLines,
+    pub(crate) sizes: Sizes,
+    pub(crate) codes: usize,
+    pub(crate) count: usize,
+}
+
 // What the lines of a content are due, and the content.
 #[derive(Clone, Copy)]
 pub(crate) struct Held {
@@ -148,25 +167,30 @@ fn take_entries(each: Lines, k: usize, b: &[u8], p: usize, out: &mut [u8]) -> u8
 
 // A content from bit q on, the digits beside it, and its entries.
 pub(crate) fn take_content(
-    f: Kind,
-    s: RowLines,
-    z: Sizes,
-    k: usize,
+    h: Heading,
     b: &[u8],
     q: usize,
     digits: &mut [u8],
     entries: &mut [u8],
 ) -> Held
-    requires { Holding f s z k (length b.now) q digits.old entries.old }
-    ensures { (result.content ≡ content_of f (numbers_at (row_of f).before b.now q) k) × Judged (λ (a : ℕ). fine a (content_lines (row_of f) k) (decode (content_lines (row_of f) k) (bits b.now) q)) result.due × Beside f k b.now q digits.new entries.new }
+    requires { Holding h.kind h.row h.sizes h.count (length b.now) q digits.old entries.old }
+    ensures { (result.content ≡ content_of h.kind (numbers_at (row_of h.kind).before b.now q) h.count) × Judged (λ (a : ℕ). fine a (content_lines (row_of h.kind) h.count) (decode (content_lines (row_of h.kind) h.count) (bits b.now) q)) result.due × Beside h.kind h.count b.now q digits.new entries.new }
 {
     let mut numbers = [0; 6];
-    let own = columns::take_own(s.before.from, s.own, b, q, &mut numbers);
-    let first = columns::take_rows(beside(s.before, s.own), 1, b, own.place, digits, 0);
-    let p = q + z.lead;
-    let rows = take_entries(s.each, k, b, p, entries);
-    let last = columns::take_rows(s.after, 1, b, p + k * z.each, digits, z.first - own.numbers);
-    let content = packet::named(f, &numbers, k);
+    let own = columns::take_own(h.row.before.from, h.row.own, b, q, &mut numbers);
+    let first = columns::take_rows(beside(h.row.before, h.row.own), 1, b, own.place, digits, 0);
+    let p = q + h.sizes.lead;
+    let rows = take_entries(h.row.each, h.count, b, p, entries);
+    let behind = p + h.count * h.sizes.each;
+    let last = columns::take_rows(
+        h.row.after,
+        1,
+        b,
+        behind,
+        digits,
+        h.sizes.first - own.numbers,
+    );
+    let content = packet::named(h.kind, &numbers, h.count);
     Held {
         due: own.due.min(first).min(rows.min(last)),
         content,

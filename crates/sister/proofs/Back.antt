@@ -9,7 +9,6 @@ use lib.Seq.{length-take-le, drop-drop}
 use lib.Dec.{ltb, eqb}
 use borrow.Author.Tests.{eqb-true, not-false, le-leb, le-ltb, eq-eqb}
 use Rattle.laws.specs.Bits.{at, run, bits, bytes}
-use Rattle.laws.specs.Scan.{all}
 use Rattle.laws.proofs.Bits.{Under, at_small}
 use Rattle.laws.proofs.Cases.{and_both, and_yes, or_both, or_no}
 use Rattle.laws.proofs.Elements.{by_test}

@@ -10,7 +10,6 @@ use lib.Seq.{take_at, drop_at, drop-drop}
 use lib.Dec.{leb, eqb}
 use borrow.Author.Tests.{leb-true, eqb-true, not-false, le-ltb, eq-eqb}
 use Rattle.laws.specs.Bits.{at, run, bits, bytes}
-use Rattle.laws.specs.Scan.{all}
 use Rattle.laws.proofs.Bits.{Under, length_run, under_run}
 use Rattle.laws.proofs.Cases.{and_both, and_left, and_right, and_yes, or_both, or_no}
 use Rattle.laws.proofs.Elements.{by_test}

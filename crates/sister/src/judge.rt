@@ -14,15 +14,12 @@ use packet::Content;
 // ---- reading
 
 // The length field is not that of what follows, or not that of the command.
+#[tactic(auto, unfolding(crate::specs::Reading::length_bad))]
 fn length_bad(b: &[u8]) -> bool
     ensures { result ≡ length_bad b.now }
 {
-    let n = parts::medium(b, 8) as usize;
-    let l = parts::laid_in(b);
-    if b.len() != 3 + n {
-        return true;
-    }
-    n != l.bytes
+    let n = usize::from(parts::medium(b, 8));
+    b.len() != 3 + n || n != parts::laid_in(b).bytes
 }
 
 // No line of the code from bit p on is due the answer.
@@ -30,13 +27,11 @@ fn code_fine(answer: u8, b: &[u8], p: usize) -> bool
     requires { p < 60000 }
     ensures { result ≡ fine answer code (decode code (bits b.now) p) }
 {
-    if answer == 24 {
-        return format::ranged(b, p, 1, 4, 15, 15);
+    match answer {
+        24 => format::ranged(b, p, 1, 4, 15, 15),
+        25 => format::ranged(b, p + 4, 23, 4, 0, 9),
+        _ => true,
     }
-    if answer == 25 {
-        return format::ranged(b, p + 4, 23, 4, 0, 9);
-    }
-    true
 }
 
 // The same of n codes.
@@ -44,19 +39,11 @@ fn codes_fine(answer: u8, b: &[u8], p: usize, n: usize) -> bool
     requires { (p < 30000) × (n ≤ 255) }
     ensures { result ≡ fine answer (times n code) (decode (times n code) (bits b.now) p) }
 {
-    let mut q = p;
-    let mut j: usize = 0;
-    while j < n {
-        if !code_fine(answer, b, q) {
-            return false;
-        }
-        q += 96;
-        j += 1;
-    }
-    true
+    (0..n).all(|j| code_fine(answer, b, p + j * 96))
 }
 
 // The fields of a command are in their ranges, and its day is one that the month has.
+#[tactic(auto, unfolding(crate::specs::Layout::fields_fine, format::specs::Format::fine, format::specs::Format::fill))]
 fn fields_fine(c: Command) -> bool
     ensures { result ≡ fields_fine c }
 {
@@ -70,12 +57,12 @@ fn fields_fine(c: Command) -> bool
             second,
         } => {
             let no_day = packet::no_such_day(Content::Clock {
-                year: year,
-                month: month,
-                day: day,
-                hour: hour,
-                minute: minute,
-                second: second,
+                year,
+                month,
+                day,
+                hour,
+                minute,
+                second,
             });
             (1 <= month)
                 & (month <= 12)
@@ -86,9 +73,7 @@ fn fields_fine(c: Command) -> bool
                 & (second <= 59)
                 & !no_day
         }
-        Command::Resource { length: _ } => true,
-        Command::Lock { khz: _, count: _ } => true,
-        Command::Unknown => true,
+        Command::Resource { .. } | Command::Lock { .. } | Command::Unknown => true,
     }
 }
 
@@ -135,6 +120,7 @@ fn digits_fine(xs: &[u8]) -> bool
 }
 
 // The count is above 255, or the address or the codes are not as many as the command has.
+#[tactic(auto, unfolding(crate::specs::Writing::count_bad))]
 fn count_bad(c: Command, address: &[u8], codes: &[u8]) -> bool
     ensures { result ≡ count_bad c address.now codes.now }
 {
@@ -142,10 +128,7 @@ fn count_bad(c: Command, address: &[u8], codes: &[u8]) -> bool
         return true;
     }
     let l = puts::laid_for(c);
-    if address.len() != l.address {
-        return true;
-    }
-    codes.len() != 23 * l.codes
+    address.len() != l.address || codes.len() != 23 * l.codes
 }
 
 // What a command whose counts are right is due: 25, 27 or 10.
@@ -159,8 +142,7 @@ fn rest_answer(c: Command, address: &[u8], codes: &[u8], room: usize) -> u8
     if !fields_fine(c) {
         return 27;
     }
-    let l = puts::laid_for(c);
-    if room < 3 + l.bytes {
+    if room < 3 + puts::laid_for(c).bytes {
         return 10;
     }
     0

@@ -55,19 +55,18 @@ pub fn read(command: &[u8]) -> Opened
 {
     let a = judge::answer(command);
     if a == 0 {
-        let c = parts::command(command);
-        let d = parts::codes(command);
+        let codes = parts::codes(command);
         Opened {
             answer: 0,
-            command: c,
-            codes: d,
+            command: parts::command(command),
+            codes,
         }
     } else {
-        let z = parts::zeros5865();
+        let codes = parts::zeros5865();
         Opened {
             answer: a,
             command: Command::Unknown,
-            codes: z,
+            codes,
         }
     }
 }
@@ -97,9 +96,6 @@ pub fn write(command: Command, address: &[u8], codes: &[u8], out: &mut [u8]) -> 
             length: 0,
         };
     }
-    let size = puts::put_command(command, address, codes, out);
-    Written {
-        answer: 0,
-        length: size,
-    }
+    let length = puts::put_command(command, address, codes, out);
+    Written { answer: 0, length }
 }

@@ -63,12 +63,10 @@ pub(crate) fn tag_of(f: Kind) -> u8
 pub(crate) fn count(b: &[u8]) -> usize
     ensures { (result ≡ count_of b.now) × (result ≤ 255) }
 {
-    let f = kind(b);
-    match f {
-        Kind::Clock => 0,
-        Kind::Resource => octet(b, 3) as usize,
-        Kind::Lock => octet(b, 7) as usize,
-        Kind::Unknown => 0,
+    match kind(b) {
+        Kind::Resource => usize::from(octet(b, 3)),
+        Kind::Lock => usize::from(octet(b, 7)),
+        Kind::Clock | Kind::Unknown => 0,
     }
 }
 
@@ -114,8 +112,7 @@ pub(crate) fn laid_in(b: &[u8]) -> Layout
 pub(crate) fn command(b: &[u8]) -> Command
     ensures { result ≡ command_in b.now }
 {
-    let f = kind(b);
-    match f {
+    match kind(b) {
         Kind::Clock => clock(b),
         Kind::Resource => Command::Resource { length: count(b) },
         Kind::Lock => Command::Lock {
@@ -126,22 +123,17 @@ pub(crate) fn command(b: &[u8]) -> Command
     }
 }
 
+#[tactic(auto, unfolding(crate::specs::Layout::clock_at))]
 fn clock(b: &[u8]) -> Command
     ensures { result ≡ clock_at b.now }
 {
-    let year = medium(b, 24);
-    let month = octet(b, 5);
-    let day = octet(b, 6);
-    let hour = octet(b, 7);
-    let minute = octet(b, 8);
-    let second = octet(b, 9);
     Command::Clock {
-        year: year,
-        month: month,
-        day: day,
-        hour: hour,
-        minute: minute,
-        second: second,
+        year: medium(b, 24),
+        month: octet(b, 5),
+        day: octet(b, 6),
+        hour: octet(b, 7),
+        minute: octet(b, 8),
+        second: octet(b, 9),
     }
 }
 
@@ -150,16 +142,9 @@ pub(crate) fn codes(b: &[u8]) -> [u8; 5865]
     ensures { result ≡ padded 5865 (codes_in b.now) }
 {
     let l = laid_in(b);
-    let n = l.codes;
     let mut out = zeros5865();
-    let mut p = l.place;
-    let mut i: usize = 0;
-    let mut j: usize = 0;
-    while j < n {
-        format::fields(b, p + 4, 23, 4, &mut out, i);
-        p += 96;
-        i += 23;
-        j += 1;
+    for j in 0..l.codes {
+        format::fields(b, l.place + 96 * j + 4, 23, 4, &mut out, 23 * j);
     }
     out
 }

@@ -14,16 +14,9 @@ pub(crate) fn kind_for(c: Command) -> Kind
     ensures { result ≡ kind_for c }
 {
     match c {
-        Command::Clock {
-            year: _,
-            month: _,
-            day: _,
-            hour: _,
-            minute: _,
-            second: _,
-        } => Kind::Clock,
-        Command::Resource { length: _ } => Kind::Resource,
-        Command::Lock { khz: _, count: _ } => Kind::Lock,
+        Command::Clock { .. } => Kind::Clock,
+        Command::Resource { .. } => Kind::Resource,
+        Command::Lock { .. } => Kind::Lock,
         Command::Unknown => Kind::Unknown,
     }
 }
@@ -32,17 +25,9 @@ pub(crate) fn count_for(c: Command) -> usize
     ensures { result ≡ count_for c }
 {
     match c {
-        Command::Clock {
-            year: _,
-            month: _,
-            day: _,
-            hour: _,
-            minute: _,
-            second: _,
-        } => 0,
         Command::Resource { length } => length,
-        Command::Lock { khz: _, count } => count,
-        Command::Unknown => 0,
+        Command::Lock { count, .. } => count,
+        Command::Clock { .. } | Command::Unknown => 0,
     }
 }
 
@@ -59,7 +44,7 @@ fn put_head(out: &mut [u8], tag: u8, bytes: usize)
     requires { bytes < 65536 }
     ensures { bits out.new ≡ sets (bits out.old) 0 (head_bits tag bytes) }
 {
-    format::put_field(out, 0, 8, tag as u32);
+    format::put_field(out, 0, 8, u32::from(tag));
     format::put_field(out, 8, 16, bytes as u32);
 }
 
@@ -77,7 +62,7 @@ fn put_numbers(out: &mut [u8], c: Command)
             minute,
             second,
         } => {
-            format::put_field(out, 24, 16, year as u32);
+            format::put_field(out, 24, 16, u32::from(year));
             format::put_fields(out, 40, 8, &[month, day, hour, minute, second]);
         }
         Command::Resource { length } => {
@@ -96,15 +81,10 @@ fn put_codes(out: &mut [u8], p: usize, n: usize, codes: &[u8])
     requires { (p < 30000) × (n ≤ 255) × (length codes.now ≡ 23 * n) }
     ensures { bits out.new ≡ sets (bits out.old) p (code_bits n codes.now) }
 {
-    let mut q = p;
-    let mut i: usize = 0;
-    let mut j: usize = 0;
-    while j < n {
+    for j in 0..n {
+        let q = p + 96 * j;
         format::put_field(out, q, 4, 15);
-        format::put_fields(out, q + 4, 4, octets::part(codes, i, 23));
-        q += 96;
-        i += 23;
-        j += 1;
+        format::put_fields(out, q + 4, 4, octets::part(codes, 23 * j, 23));
     }
 }
 

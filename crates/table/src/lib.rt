@@ -13,6 +13,7 @@ use format::Line;
 use packet::{Counting, Kind, RowLines, Sizes};
 
 // Every line of the table of contents, kind by kind.
+#[tactic(auto, unfolding(packet::specs::InCode::every_line, packet::specs::InCode::lines_of_each))]
 pub fn line_at(i: usize) -> Line
     ensures { result ≡ get_or every_line i (octets 0) }
 {
@@ -65,6 +66,7 @@ pub fn line_at(i: usize) -> Line
 
 // The row of a kind in the table of contents: how many lines hold the content's own numbers, and where its
 // lines stand, how many they are, their bits, their own numbers.
+#[tactic(auto, unfolding(packet::specs::InCode::row_at, packet::specs::InCode::lines_up_to, packet::specs::InCode::lines_for, packet::specs::InCode::own_lines, format::specs::Format::size, format::specs::Format::need))]
 pub fn row_of(f: Kind) -> RowLines
     ensures { result ≡ row_at f }
 {
@@ -118,10 +120,8 @@ fn count_bits(counting: Counting) -> usize
     ensures { result ≡ count_size counting }
 {
     match counting {
-        Counting::Fixed => 0,
         Counting::Counted => 8,
-        Counting::Raw => 0,
-        Counting::Unknown => 0,
+        Counting::Fixed | Counting::Raw | Counting::Unknown => 0,
     }
 }
 
@@ -130,49 +130,35 @@ pub fn sizes_of(f: Kind) -> Sizes
     ensures { result ≡ sizes_of f }
 {
     let s = row_of(f);
-    let counting = s.counting;
-    let before = s.before;
-    let each = s.each;
-    let after = s.after;
     Sizes {
-        lead: before.bits + count_bits(counting),
-        each: each.bits,
-        rest: after.bits,
-        first: before.numbers,
-        row: each.numbers,
-        last: after.numbers,
+        lead: s.before.bits + count_bits(s.counting),
+        each: s.each.bits,
+        rest: s.after.bits,
+        first: s.before.numbers,
+        row: s.each.numbers,
+        last: s.after.numbers,
     }
 }
 
 // A kind that is neither opened nor carried.
+#[tactic(auto, unfolding(packet::specs::InCode::row_at))]
 pub fn is_unknown(f: Kind) -> bool
     ensures { result ≡ is_unknown f }
 {
-    let s = row_of(f);
-    let counting = s.counting;
-    match counting {
-        Counting::Fixed => false,
-        Counting::Counted => false,
-        Counting::Raw => false,
-        Counting::Unknown => true,
-    }
+    matches!(row_of(f).counting, Counting::Unknown)
 }
 
 // A type that a writer refuses: 16, which is only read since the licence ended, and what no reader takes.
 pub fn not_written(t: u8) -> bool
     ensures { result ≡ not_written t }
 {
-    if t == 16 {
-        return true;
-    }
-    is_unknown(packet::kind_of(t))
+    t == 16 || is_unknown(packet::kind_of(t))
 }
 
 // A kind with entries: each of its rows has several lines.
+#[tactic(auto, unfolding(packet::specs::InCode::row_at))]
 pub fn has_entries(f: Kind) -> bool
     ensures { result ≡ has_entries f }
 {
-    let s = row_of(f);
-    let each = s.each;
-    1 < each.m
+    row_of(f).each.m > 1
 }

@@ -1,4 +1,4 @@
-// Lines, and rows of them, as the table of contents is written.
+// Lines, and rows of them, as the table of contents is written: a function for each word of the table language, `format:Format`.
 ghost use Rattle.std.specs.Prelude.{◌≡◌, ◌+◌, ◌-◌, ◌^◌, ◌≤◌};
 ghost use Rattle.format.specs.Format.{num, only, any, ones, digits, octets};
 ghost use Rattle.packet.specs.declared.Counting.TheVariants as counting;
@@ -13,8 +13,8 @@ pub(crate) fn a_num(w: usize, lo: u32, hi: u32) -> Line
     Line {
         count: 1,
         width: w,
-        lo: lo,
-        hi: hi,
+        lo,
+        hi,
         answer: 27,
         given: true,
     }
@@ -97,10 +97,10 @@ pub(crate) fn span(from: usize, m: usize, bits: usize, numbers: usize) -> Lines
     ensures { result ≡ record { from = from; m = m; bits = bits; numbers = numbers } }
 {
     Lines {
-        from: from,
-        m: m,
-        bits: bits,
-        numbers: numbers,
+        from,
+        m,
+        bits,
+        numbers,
     }
 }
 
@@ -115,11 +115,11 @@ pub(crate) fn a_row(
     ensures { result ≡ record { counting = counting; own = own; before = before; each = each; after = after } }
 {
     RowLines {
-        counting: counting,
-        own: own,
-        before: before,
-        each: each,
-        after: after,
+        counting,
+        own,
+        before,
+        each,
+        after,
     }
 }
 

@@ -15,7 +15,8 @@ use Rattle.laws.proofs.Cases.{if_yes}
 use Rattle.laws.proofs.Strips.{row_below, every_same}
 use Rattle.format.specs.Reach.{field_read}
 use Rattle.format.proofs.Leaves.{reached}
-use Rattle.reader.proofs.Leaves.{single_inside, every_range}
+use Rattle.packet.proofs.Columns.{every_range}
+use Rattle.reader.proofs.Leaves.{single_inside}
 use Rattle.reader.proofs.columns.same_column.Goals as goal
 
 pub returns : goal.returns

@@ -8,14 +8,13 @@ use Rattle.sister.proofs.Found as found
 use Prim.Native.Nat.{◌+◌}
 use Rattle.sister.proofs.judge.code_fine.Goals as goal
 
-pub returns-then-answer-eq24 : goal.returns-then-answer-eq24
-returns-then-answer-eq24 c = let a = c.args in
-    c.ranged.ensures ∙ if_yes _ _ (reached a.p 1 4 (omega arith) (omega arith) (omega arith)) ∙ found.code_24 a.answer (bits a.b.now) a.p c.if-answer-eq24.true
+pub returns-in-24 : goal.returns-in-24
+returns-in-24 c = let a = c.args in
+    c.ranged.ensures ∙ if_yes _ _ (reached a.p 1 4 (omega arith) (omega arith) (omega arith)) ∙ found.code_24 a.answer (bits a.b.now) a.p c.in-24.is
 
-pub returns-then-answer-eq25 : goal.returns-then-answer-eq25
-returns-then-answer-eq25 c = let a = c.args in
-    c.ranged-then-answer-eq25.ensures ∙ if_yes _ _ (reached (a.p + 4) 23 4 (omega arith) (omega arith) (omega arith)) ∙ found.code_25 a.answer (bits a.b.now) a.p c.if-answer-eq25.true
+pub returns-in-25 : goal.returns-in-25
+returns-in-25 c = let a = c.args in
+    c.ranged-in-25.ensures ∙ if_yes _ _ (reached (a.p + 4) 23 4 (omega arith) (omega arith) (omega arith)) ∙ found.code_25 a.answer (bits a.b.now) a.p c.in-25.is
 
-pub returns : goal.returns
-returns c = let a = c.args in
-    found.code_else a.answer (bits a.b.now) a.p c.if-answer-eq24.false c.if-answer-eq25.false
+pub returns-in_default : goal.returns-in_default
+returns-in_default c = let a = c.args in let h = c.in_default.in_default-own.rest in found.code_else a.answer (bits a.b.now) a.p h.0.1 h.1

@@ -1,33 +1,22 @@
 -- `sister::judge::codes_fine`: what its goals need. Assumes nothing.
-use mathlib.Core.Path.{refl, sym, ◌∙◌}
+use mathlib.Core.Path.{sym, ◌∙◌}
+use mathlib.Core.Bool.{Bool}
+use Prim.Native.Nat.{ℕ, ◌+◌, ◌*◌}
 use native.Mathlib.Omega.{arith}
-use native.Mathlib.Nat.{sub-zero}
-use borrow.Author.Tests.{not-true, not-false}
+use borrow.Author.Tests.{tests}
+use Rattle.std.proofs.Common.{rules}
+use Rattle.std.proofs.lemmas.Iterator.{YieldsList-from_range}
+use Rattle.std.proofs.lemmas.Iterator.Search.{all_from_yields_List}
 use Rattle.laws.specs.Bits.{bits}
-use Rattle.laws.proofs.Cases.{and_yes, and_no}
-use Rattle.format.specs.Format.{size}
+use Rattle.format.specs.Format.{size, fine, decode}
 use Rattle.packet.specs.Table.{code}
-use Rattle.packet.proofs.Loops as laws
-use mathlib.Core.Path.{ap}
-use mathlib.Core.Bool.{not}
+use Rattle.packet.proofs.Columns.{every_range, fine_rows}
 use Rattle.sister.proofs.judge.codes_fine.Goals as goal
 
-pub loop-j-init : goal.loop-j-init
-loop-j-init c = (omega arith, omega arith, rw (sub-zero c.args.n))
-
-pub returns-then-not-code_fine : goal.returns-then-not-code_fine
-unfolding size
-returns-then-not-code_fine c = let a = c.args in
-    let k = c.loop-j in
-    sym (k.invariant.2 ∙ laws.rows_turn a.answer a.n k.j code (bits a.b.now) k.q 96 (omega arith) refl ∙ and_no _ (sym c.code_fine.ensures ∙ not-true c.code_fine.result (ap not c.if-not-code_fine.true)))
-
-pub loop-j-preserved : goal.loop-j-preserved
-unfolding size
-loop-j-preserved c = let a = c.args in
-    let k = c.loop-j in
-    (omega arith, omega arith, k.invariant.2 ∙ laws.rows_turn a.answer a.n k.j code (bits a.b.now) k.q 96 (omega arith) refl ∙ and_yes _ (sym c.code_fine.ensures ∙ not-false c.code_fine.result (ap not c.if-not-code_fine.false)))
-
 pub returns : goal.returns
+unfolding size
 returns c = let a = c.args in
-    let k = c.loop-j in
-    sym (k.invariant.2 ∙ laws.rows_done a.answer a.n k.j code (bits a.b.now) k.q (omega arith))
+    let F : ℕ → Bool = λ j. fine a.answer code (decode code (bits a.b.now) (a.p + j * 96)) in
+    all_from_yields_List F _ _ _ c.all.ensures.ran (YieldsList-from_range 0 a.n a.n (search rules) (omega arith)) (λ x r q k. search (rules, tests))
+    ∙ sym (every_range a.n F)
+    ∙ sym (fine_rows a.answer a.n code (bits a.b.now) a.p)

@@ -17,19 +17,19 @@ returns-then-not-fields_fine c = let x = c.args in
     says.writes_27 x.c x.address.now x.codes.now x.room c.requires (sym c.digits_fine.ensures ∙ not-false c.digits_fine.result (ap not c.if-not-digits_fine.false))
     (sym c.fields_fine.ensures ∙ not-true c.fields_fine.result (ap not c.if-not-fields_fine.true))
 
-pub laid_for-l-requires : goal.laid_for-l-requires
-laid_for-l-requires c = let x = c.args in (counted x.c x.address.now x.codes.now c.requires).few
+pub laid_for-requires : goal.laid_for-requires
+laid_for-requires c = let x = c.args in (counted x.c x.address.now x.codes.now c.requires).few
 
-pub overflow_add-l : goal.overflow_add-l
-overflow_add-l c = let x = c.args in
-    omega (arith, (reaches x.c c.laid_for-l.result c.laid_for-l.ensures (counted x.c x.address.now x.codes.now c.requires).few).0)
+pub overflow_add-laid_for : goal.overflow_add-laid_for
+overflow_add-laid_for c = let x = c.args in
+    omega (arith, (reaches x.c c.laid_for.result c.laid_for.ensures (counted x.c x.address.now x.codes.now c.requires).few).0)
 
-pub returns-then-room-l : goal.returns-then-room-l
-returns-then-room-l c = let x = c.args in
+pub returns-then-room-laid_for : goal.returns-then-room-laid_for
+returns-then-room-laid_for c = let x = c.args in
     says.writes_10 x.c x.address.now x.codes.now x.room c.requires (sym c.digits_fine.ensures ∙ not-false c.digits_fine.result (ap not c.if-not-digits_fine.false))
-    (sym c.fields_fine.ensures ∙ not-false c.fields_fine.result (ap not c.if-not-fields_fine.false)) (omega (arith, ap (λ (y : Layout). y.bytes) c.laid_for-l.ensures, c.if-room-l.true))
+    (sym c.fields_fine.ensures ∙ not-false c.fields_fine.result (ap not c.if-not-fields_fine.false)) (omega (arith, ap (λ (y : Layout). y.bytes) c.laid_for.ensures, c.if-room-laid_for.true))
 
 pub returns : goal.returns
 returns c = let x = c.args in
     says.writes_0 x.c x.address.now x.codes.now x.room c.requires (sym c.digits_fine.ensures ∙ not-false c.digits_fine.result (ap not c.if-not-digits_fine.false))
-    (sym c.fields_fine.ensures ∙ not-false c.fields_fine.result (ap not c.if-not-fields_fine.false)) (omega (arith, ap (λ (y : Layout). y.bytes) c.laid_for-l.ensures))
+    (sym c.fields_fine.ensures ∙ not-false c.fields_fine.result (ap not c.if-not-fields_fine.false)) (omega (arith, ap (λ (y : Layout). y.bytes) c.laid_for.ensures))

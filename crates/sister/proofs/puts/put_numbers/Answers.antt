@@ -22,7 +22,7 @@ overflow_cast-count c = let q = ap count_for c.in-Lock.is in omega (arith, q, c.
 pub returns-in-Clock : goal.returns-in-Clock
 returns-in-Clock c = let o = c.args.out.now in
     join (bits o) (bits c.put_field.new.out) _ (bits_of 16 c.in-Clock.year) (spread 8 (c.in-Clock.month ∷ c.in-Clock.day ∷ c.in-Clock.hour ∷ c.in-Clock.minute ∷ c.in-Clock.second ∷ [])) 24 40
-    (number_put o _ 24 16 c.in-Clock.year (omega arith) (omega arith) c.put_field.ensures)
+    (number_put o _ 24 16 c.in-Clock.year (omega arith) (omega arith) (rw c.from.ensures at c.put_field.ensures))
     (numbers_put c.put_field.new.out _ (c.in-Clock.month ∷ c.in-Clock.day ∷ c.in-Clock.hour ∷ c.in-Clock.minute ∷ c.in-Clock.second ∷ []) 40 8 (omega arith) (omega arith) (omega arith) c.put_fields.ensures)
     (omega (arith, length_bits_of 16 c.in-Clock.year))
     ∙ ap (sets (bits o) 24) (clock_bits c.in-Clock.year c.in-Clock.month c.in-Clock.day c.in-Clock.hour c.in-Clock.minute c.in-Clock.second)
