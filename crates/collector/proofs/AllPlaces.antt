@@ -1,50 +1,39 @@
 -- The four places: whether the record is good, which place a frame goes to, and what the collector then is. Assumes nothing.
 use mathlib.Core.Path.{◌≡◌, refl, sym, ap, ap₂, ◌∙◌}
-use mathlib.Core.List.{List, [], ◌∷◌}
+use mathlib.Core.List.{List, [], ◌∷◌, map}
 use mathlib.Core.Bool.{Bool, true, false, cond, not, ◌&&◌}
 use Prim.Native.Nat.{ℕ, zero, suc, ◌+◌, ◌<◌, ◌≤◌}
 use native.Mathlib.Nat.{not-suc-le-zero, le_of_suc-le-suc}
 use native.Mathlib.Numerals.{add-one}
 use native.Mathlib.Omega.{arith}
 use lib.ListN.{length, get_or, drop, get_or-eq_default}
-use lib.Seq.{drop-cons, drop-length}
+use lib.Seq.{drop-cons}
 use lib.Dec.{leb, eqb}
 use borrow.Author.Tests.{not-true, not-false, leb-true, eq-eqb, ne_eqb}
 use Rattle.laws.specs.Scan.{all, index_of}
-use Rattle.laws.specs.Refusals.{first, none}
+use Rattle.laws.specs.Refusals.{first}
 use Rattle.laws.proofs.Cases.{if_yes, if_no, and_yes, and_no, or_no, and_left, and_right}
 use Rattle.laws.proofs.Elements.{by_test, index_yes, index_no, index_holds}
 use Rattle.laws.proofs.Refusals.{stop, pass, none_left, not_due}
 use Rattle.collector.specs.declared.Place.{Place}
+use Rattle.collector.specs.declared.Holding.{Holding}
 use Rattle.collector.specs.declared.Collector.{Collector}
 use Rattle.collector.specs.declared.Piece.{Piece}
 use Rattle.collector.specs.declared.Offered.{Offered}
 use Rattle.collector.specs.Whole.{passes}
 use Rattle.collector.specs.Places.{blank, is_pair, pairs_apart, taken_for, stored, marks_below, complete, fair, contradicts, again, against, joined, whole, spoiled, state}
 use Rattle.collector.specs.Collector.{good, index_of_pair, place_of, is_held, is_free, index_of_free, put, its_place, spot, after, take_cases, keeps, taken_in, kept, begun}
+use Rattle.collector.specs.Layout.{as_place}
+use Rattle.std.proofs.lemmas.List.Folds.{list_all-map}
 use Rattle.collector.proofs.OnePlace.{is_missing, is_whole_lem, is_spoiled}
 
 -- ---- a turn of the loop over the places
-module _ (xs : List Place) (d : Place) (i : ℕ) (h : i < length xs) where
-  pub good_bad : fair (get_or xs i d) ≡ false → good (drop i xs) ≡ false
-  unfolding good
-  good_bad e = rw (drop-cons xs i d, e)
-
-  pub good_twin : fair (get_or xs i d) ≡ true → all (pairs_apart (get_or xs i d)) (drop (i + 1) xs) ≡ false → good (drop i xs) ≡ false
-  unfolding good
-  good_twin e a =
-      let a' : all (pairs_apart (get_or xs i d)) (drop (suc i) xs) ≡ false = rw (add-one i) at a in
-      rw (drop-cons xs i d, e, a')
-
-  pub good_next : fair (get_or xs i d) ≡ true → all (pairs_apart (get_or xs i d)) (drop (i + 1) xs) ≡ true → good (drop i xs) ≡ good (drop (i + 1) xs)
-  unfolding good
-  good_next e a =
-      let a' : all (pairs_apart (get_or xs i d)) (drop (suc i) xs) ≡ true = rw (add-one i) at a in
-      rw (add-one i, drop-cons xs i d, e, a')
-
-pub good_end : (xs : List Place) (i : ℕ) → i ≡ length xs → good (drop i xs) ≡ true
+pub good_turn : (ps : List Holding) (i : ℕ) (d : Holding) → i < length ps → good (map as_place (drop i ps)) ≡ fair (as_place (get_or ps i d)) && (all (λ q. pairs_apart (as_place (get_or ps i d)) (as_place q)) (drop (i + 1) ps) && good (map as_place (drop (i + 1) ps)))
 unfolding good
-good_end xs i e = rw (e, drop-length)
+good_turn ps i d h =
+    let x = as_place (get_or ps i d) in
+    let after = drop (suc i) ps in
+    rw (add-one i, drop-cons ps i d) (ap (λ b. fair x && (b && good (map as_place after))) (list_all-map (pairs_apart x) as_place after))
 
 -- each place of a good record is fair
 pub good_at : (xs : List Place) (i : ℕ) (d : Place) → i < length xs → good xs ≡ true → fair (get_or xs i d) ≡ true

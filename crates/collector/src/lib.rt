@@ -2,7 +2,7 @@
 // contradiction cleared it.
 #![tactic(auto)]
 
-ghost use Rattle.std.specs.Prelude.{◌≡◌, true, ◌&&◌, ◌+◌, ◌<◌, length, drop};
+ghost use Rattle.std.specs.Prelude.{◌≡◌, true, ◌&&◌, ◌<◌, length, MatchOption};
 ghost use Rattle.laws.specs.Scan.{all};
 ghost use Rattle.collector.specs.Places.{Small, pairs_apart};
 ghost use Rattle.collector.specs.Collector.{good, index_of_pair, index_of_free, put, piece_with, kept, begun, taken_in};
@@ -82,39 +82,23 @@ pub struct Copied {
 pub fn empty() -> Holdings
     ensures { result ≡ no_holdings }
 {
-    let p = places::never_taken();
-    Holdings { places: [p; 4] }
+    Holdings {
+        places: [places::never_taken(); 4],
+    }
 }
 
-// No place after `i` is held for the pair of `p`.
-fn alone(c: Holdings, p: Holding, i: usize) -> bool
-    requires { i < 4 }
-    ensures { result ≡ all (pairs_apart (as_place p)) (drop (i + 1) (as_collector c).places) }
+// None of these places is held for the pair of `p`.
+fn alone(p: Holding, others: &[Holding]) -> bool
+    ensures { result ≡ all (λ q. pairs_apart (as_place p) (as_place q)) others.now }
 {
-    let mut j = i + 1;
-    while j < 4 {
-        let q = c.places[j];
-        if places::same_pair(p, q) {
-            return false;
-        }
-        j += 1;
-    }
-    true
+    others.iter().all(|q| !places::same_pair(p, *q))
 }
 
 // No place, free or held, has the top bit of its marks set.
 fn tops_clear(c: Holdings) -> bool
     ensures { result ≡ tops_clear c }
 {
-    let mut i = 0;
-    while i < 4 {
-        let p = c.places[i];
-        if !places::is_clear(p) {
-            return false;
-        }
-        i += 1;
-    }
-    true
+    c.places.iter().all(|p| places::is_clear(*p))
 }
 
 // Whether the record is one that offers and releases can leave.
@@ -124,48 +108,28 @@ fn is_good(c: Holdings) -> bool
     if !tops_clear(c) {
         return false;
     }
-    let mut i = 0;
-    while i < 4 {
-        let p = c.places[i];
-        if !places::is_fair(p) {
+    for (i, p) in c.places.iter().enumerate() {
+        if !places::is_fair(*p) || !alone(*p, &c.places[i + 1..]) {
             return false;
         }
-        if !alone(c, p, i) {
-            return false;
-        }
-        i += 1;
     }
     true
 }
 
-// Where the pair is held; 4 where it isn't.
-fn index_of(c: Holdings, level: u8, version: u8) -> usize
-    ensures { result ≡ index_of_pair level version (as_collector c).places }
+// Where the pair is held, if it is.
+fn index_of(c: Holdings, level: u8, version: u8) -> Option<usize>
+    ensures { let at = index_of_pair level version (as_collector c).places in MatchOption result (at ≡ 4) (λ i. (i ≡ at) × (i < 4)) }
 {
-    let mut i = 0;
-    while i < 4 {
-        let p = c.places[i];
-        if places::is_pair(p, level, version) {
-            return i;
-        }
-        i += 1;
-    }
-    i
+    c.places
+        .iter()
+        .position(|p| places::is_pair(*p, level, version))
 }
 
-// The first free place; 4 where there is none.
-fn first_free(c: Holdings) -> usize
-    ensures { result ≡ index_of_free (as_collector c).places }
+// The first free place, if there is one.
+fn first_free(c: Holdings) -> Option<usize>
+    ensures { let at = index_of_free (as_collector c).places in MatchOption result (at ≡ 4) (λ i. (i ≡ at) × (i < 4)) }
 {
-    let mut j = 0;
-    while j < 4 {
-        let p = c.places[j];
-        if !p.held {
-            return j;
-        }
-        j += 1;
-    }
-    j
+    c.places.iter().position(|p| !p.held)
 }
 
 // The collector with another place at `i`, as it was where it has none.
@@ -189,10 +153,9 @@ fn keep_in(c: Holdings, i: usize, p: Holding, x: Piece) -> Outcome
     ensures top { tops_clear result.collector ≡ true }
 {
     let q = places::store(p, x);
-    let d = put_place(c, i, q);
     Outcome {
         answer: places::state_of(q),
-        collector: d,
+        collector: put_place(c, i, q),
     }
 }
 
@@ -209,34 +172,37 @@ fn begin_again(c: Holdings, i: usize, p: Holding, x: Piece) -> Outcome
     o
 }
 
+// The collector with the piece of a pair that no place is held for in the first free place: 16 where there is none.
+fn take_new(c: Holdings, x: Piece) -> Outcome
+    requires { (Small x) × (tops_clear c ≡ true) × (index_of_pair x.heading.level x.heading.version (as_collector c).places ≡ 4) }
+    ensures result_value { as_offered result ≡ taken_in (as_collector c) x }
+    ensures top { tops_clear result.collector ≡ true }
+{
+    match first_free(c) {
+        Some(j) => keep_in(c, j, places::take(c.places[j], x), x),
+        None => Outcome {
+            answer: 16,
+            collector: c,
+        },
+    }
+}
+
 fn take_in(c: Holdings, x: Piece) -> Outcome
     requires { (Small x) × (tops_clear c ≡ true) }
     ensures result_value { as_offered result ≡ taken_in (as_collector c) x }
     ensures top { tops_clear result.collector ≡ true }
 {
-    let i = index_of(c, x.heading.level, x.heading.version);
-    if i < 4 {
-        let p = c.places[i];
-        let why = places::held_against(p, x);
-        if why == 0 {
-            return keep_in(c, i, p, x);
-        }
-        if why == 3 {
-            return begin_again(c, i, p, x);
-        }
-        return Outcome {
-            answer: why,
+    let Some(i) = index_of(c, x.heading.level, x.heading.version) else {
+        return take_new(c, x);
+    };
+    let p = c.places[i];
+    match places::held_against(p, x) {
+        0 => keep_in(c, i, p, x),
+        3 => begin_again(c, i, p, x),
+        answer => Outcome {
+            answer,
             collector: c,
-        };
-    }
-    let j = first_free(c);
-    if j < 4 {
-        let q = c.places[j];
-        return keep_in(c, j, places::take(q, x), x);
-    }
-    Outcome {
-        answer: 16,
-        collector: c,
+        },
     }
 }
 
@@ -247,7 +213,7 @@ pub fn offer(collector: Holdings, frame: &[u8]) -> Outcome
     if !is_good(collector) {
         return Outcome {
             answer: 28,
-            collector: collector,
+            collector,
         };
     }
     match frame::heading_of(frame) {
@@ -264,7 +230,7 @@ fn piece_of(heading: Heading, frame: &[u8]) -> Piece
     ensures { result ≡ piece_with heading frame.now }
 {
     Piece {
-        heading: heading,
+        heading,
         a: frame[4],
         b: frame[5],
         c: frame[6],
@@ -279,21 +245,18 @@ pub fn release(collector: Holdings, level: u8, version: u8) -> Outcome
     if !is_good(collector) {
         return Outcome {
             answer: 28,
-            collector: collector,
+            collector,
         };
     }
-    let i = index_of(collector, level, version);
-    if i < 4 {
-        let p = collector.places[i];
-        let c = put_place(collector, i, places::make_free(p));
-        return Outcome {
+    match index_of(collector, level, version) {
+        Some(i) => Outcome {
             answer: 0,
-            collector: c,
-        };
-    }
-    Outcome {
-        answer: 18,
-        collector: collector,
+            collector: put_place(collector, i, places::make_free(collector.places[i])),
+        },
+        None => Outcome {
+            answer: 18,
+            collector,
+        },
     }
 }
 
@@ -308,13 +271,11 @@ pub fn copy(collector: Holdings, level: u8, version: u8, out: &mut [u8]) -> Copi
             length: 0,
         };
     }
-    let i = index_of(collector, level, version);
-    if i < 4 {
-        let p = collector.places[i];
-        return places::copy_out(p, out);
-    }
-    Copied {
-        answer: 18,
-        length: 0,
+    match index_of(collector, level, version) {
+        Some(i) => places::copy_out(collector.places[i], out),
+        None => Copied {
+            answer: 18,
+            length: 0,
+        },
     }
 }

@@ -5,7 +5,7 @@ ghost use Rattle.collector.specs.Whole.{passes};
 ghost use Rattle.collector.specs.Places.{Small, free, is_pair, same_pair, with_mark, marks_below, complete, fair, same_four, against, stored, cleared, taken_for, freed, joined, whole, state, copy_cases, copy_answer, copy_bytes};
 ghost use Rattle.collector.specs.Layout.{marks_of, top_clear, as_place, from_place};
 
-use crate::{Copied, Holding, Number, Piece, Total, whole};
+use crate::{Copied, Heading, Holding, Number, Piece, Total, whole};
 
 // A place that was never taken.
 pub(crate) fn never_taken() -> Holding
@@ -25,22 +25,13 @@ pub(crate) fn never_taken() -> Holding
 pub(crate) fn is_pair(p: Holding, level: u8, version: u8) -> bool
     ensures { result ≡ is_pair level version (as_place p) }
 {
-    if !p.held {
-        return false;
-    }
-    if p.level != level {
-        return false;
-    }
-    p.version == version
+    p.held && p.level == level && p.version == version
 }
 
 pub(crate) fn same_pair(p: Holding, q: Holding) -> bool
     ensures { result ≡ same_pair (as_place p) (as_place q) }
 {
-    if !p.held {
-        return false;
-    }
-    is_pair(q, p.level, p.version)
+    p.held && is_pair(q, p.level, p.version)
 }
 
 // Whether the top bit of the marks is 0, as it always should be.
@@ -87,29 +78,16 @@ fn is_complete(p: Holding) -> bool
 }
 
 // Whether a held place has level, version and total in range, and marks below its total only.
+#[tactic(auto, unfolding(crate::specs::Places::fair))]
 pub(crate) fn is_fair(p: Holding) -> bool
     requires { top_clear p ≡ true }
     ensures { result ≡ fair (as_place p) }
 {
-    if !p.held {
-        return true;
-    }
-    if p.level < 1 {
-        return false;
-    }
-    if p.level > 6 {
-        return false;
-    }
-    if p.version > 31 {
-        return false;
-    }
-    if p.total.0 < 1 {
-        return false;
-    }
-    if p.total.0 > 63 {
-        return false;
-    }
-    marks_below(p)
+    !p.held
+        || ((1..=6).contains(&p.level)
+            && p.version <= 31
+            && (1..=63).contains(&p.total.0)
+            && marks_below(p))
 }
 
 // Whether the four bytes at the frame's number are the frame's.
@@ -118,57 +96,49 @@ fn same_four(p: Holding, x: Piece) -> bool
     ensures { result ≡ same_four (as_place p) x }
 {
     let n = x.heading.number;
-    let at = n.0 as usize * 4;
-    if p.bytes[at] != x.a {
-        return false;
-    }
-    if p.bytes[at + 1] != x.b {
-        return false;
-    }
-    if p.bytes[at + 2] != x.c {
-        return false;
-    }
-    p.bytes[at + 3] == x.d
+    let at = usize::from(n.0) * 4;
+    p.bytes[at] == x.a && p.bytes[at + 1] == x.b && p.bytes[at + 2] == x.c && p.bytes[at + 3] == x.d
 }
 
 // The place zeroed, with no mark, and with the frame's total.
-fn clear(p: Holding, x: Piece) -> Holding
+#[tactic(auto, unfolding(crate::specs::Layout::number_of))]
+fn clear(mut p: Holding, x: Piece) -> Holding
     ensures { result ≡ from_place (cleared (as_place p) x) }
 {
-    let total = x.heading.total;
-    let marks = 0;
-    let bytes = [0; 252];
-    Holding {
-        held: p.held,
-        level: p.level,
-        version: p.version,
-        total: total,
-        marks: marks,
-        bytes: bytes,
-    }
+    p.total = x.heading.total;
+    p.marks = 0;
+    p.bytes = [0; 252];
+    p
 }
 
 // The place cleared and taken for the frame's pair, whatever it was.
+#[tactic(auto, unfolding(crate::specs::Places::taken_for, crate::specs::Layout::number_of))]
 pub(crate) fn take(p: Holding, x: Piece) -> Holding
     ensures { result ≡ from_place (taken_for x) }
 {
-    let mut q = p;
-    q.held = true;
-    q.level = x.heading.level;
-    q.version = x.heading.version;
+    let Heading { level, version, .. } = x.heading;
+    let q = Holding {
+        held: true,
+        level,
+        version,
+        ..p
+    };
     clear(q, x)
 }
 
 // The place with the frame's mark and its four bytes.
+#[tactic(auto, unfolding(crate::specs::Places::stored))]
 pub(crate) fn store(p: Holding, x: Piece) -> Holding
     requires { (Small x) × (top_clear p ≡ true) }
     ensures result_value { as_place result ≡ stored (as_place p) x }
     ensures top { top_clear result ≡ true }
 {
     let n = x.heading.number;
-    let at = n.0 as usize * 4;
-    let mut q = p;
-    q.marks = with_mark(p.marks, n);
+    let at = usize::from(n.0) * 4;
+    let mut q = Holding {
+        marks: with_mark(p.marks, n),
+        ..p
+    };
     q.bytes[at] = x.a;
     q.bytes[at + 1] = x.b;
     q.bytes[at + 2] = x.c;
@@ -177,26 +147,20 @@ pub(crate) fn store(p: Holding, x: Piece) -> Holding
 }
 
 // The place made free, bytes and marks as they were.
+#[tactic(auto, unfolding(crate::specs::Places::freed))]
 pub(crate) fn make_free(p: Holding) -> Holding
     ensures result_value { as_place result ≡ freed (as_place p) }
     ensures top { result.marks ≡ p.marks }
 {
-    let mut q = p;
-    q.held = false;
-    q
+    Holding { held: false, ..p }
 }
 
 // Whether the bytes joined, four for each number below the total, are a whole packet.
 fn joined_passes(p: Holding) -> bool
     ensures { result ≡ passes (joined (as_place p)) }
 {
-    let n = p.total.0 as usize * 4;
-    let b = p.bytes;
-    if n <= 252 {
-        whole::is_whole(&b[0..n])
-    } else {
-        whole::is_whole(&b)
-    }
+    let n = usize::from(p.total.0) * 4;
+    whole::is_whole(&p.bytes[..n.min(252)])
 }
 
 // 0 where some number is missing, else 1 where the packet is whole and 17 where it is spoiled.
@@ -235,11 +199,7 @@ fn write_out(p: Holding, n: usize, out: &mut [u8])
     requires { (n ≤ 252) × (n ≤ length out.old) }
     ensures { out.new ≡ take n p.bytes ++ drop n out.old }
 {
-    let mut i = 0;
-    while i < n {
-        out[i] = p.bytes[i];
-        i += 1;
-    }
+    out[..n].copy_from_slice(&p.bytes[..n]);
 }
 
 // Copies the packet of a held place to the start of `out`: 18 where it isn't whole, 10 where `out` is too short, else 0.
@@ -254,8 +214,7 @@ pub(crate) fn copy_out(p: Holding, out: &mut [u8]) -> Copied
             length: 0,
         };
     }
-    let b = p.bytes;
-    let n = size::packet_size(&b);
+    let n = size::packet_size(&p.bytes);
     if out.len() < n {
         return Copied {
             answer: 10,

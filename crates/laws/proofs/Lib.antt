@@ -12,6 +12,7 @@ pub mod ByteFields
 pub mod Words
 pub mod Writes
 pub mod Parts
+pub mod Positions
 pub mod Lists
 pub mod Strips
 pub mod Arms

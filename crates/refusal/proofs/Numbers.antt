@@ -19,6 +19,7 @@ some_number refusal.Numbering z = omega arith
 some_number refusal.PacketSize z = omega arith
 some_number refusal.Length z = omega arith
 some_number refusal.Range z = omega arith
+some_number refusal.State z = omega arith
 some_number refusal.LoneByte z = omega arith
 some_number refusal.Parts z = omega arith
 some_number refusal.MessageNumber z = omega arith
@@ -26,6 +27,8 @@ some_number refusal.Story z = omega arith
 some_number refusal.Shelf z = omega arith
 some_number refusal.Record z = omega arith
 some_number refusal.FullShelf z = omega arith
+some_number refusal.Symbol z = omega arith
+some_number refusal.Sample z = omega arith
 
 -- each number leads back to its refusal
 abbrev refusal_of : ℕ → Refusal
@@ -37,13 +40,16 @@ refusal_of n =
     (cond (eqb n 20) refusal.PacketSize
     (cond (eqb n 26) refusal.Length
     (cond (eqb n 27) refusal.Range
+    (cond (eqb n 28) refusal.State
     (cond (eqb n 30) refusal.LoneByte
     (cond (eqb n 31) refusal.Parts
     (cond (eqb n 32) refusal.MessageNumber
     (cond (eqb n 33) refusal.Story
     (cond (eqb n 34) refusal.Shelf
     (cond (eqb n 35) refusal.Record
-    refusal.FullShelf))))))))))))
+    (cond (eqb n 36) refusal.FullShelf
+    (cond (eqb n 37) refusal.Symbol
+    refusal.Sample)))))))))))))))
 
 back : (e : Refusal) → refusal_of (number_of e) ≡ e
 back refusal.Room = refl
@@ -53,6 +59,7 @@ back refusal.Numbering = refl
 back refusal.PacketSize = refl
 back refusal.Length = refl
 back refusal.Range = refl
+back refusal.State = refl
 back refusal.LoneByte = refl
 back refusal.Parts = refl
 back refusal.MessageNumber = refl
@@ -60,6 +67,8 @@ back refusal.Story = refl
 back refusal.Shelf = refl
 back refusal.Record = refl
 back refusal.FullShelf = refl
+back refusal.Symbol = refl
+back refusal.Sample = refl
 
 -- so an answer names one refusal
 pub same_number : (d e : Refusal) → number_of d ≡ number_of e → d ≡ e

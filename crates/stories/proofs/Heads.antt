@@ -8,7 +8,7 @@ use native.Mathlib.Decide.{dec_lt}
 use lib.ListN.{length, take, drop, get_or, length-take}
 use lib.Seq.{take_all}
 use lib.Dec.{leb}
-use borrow.Author.Tests.{le-leb, lt-leb, leb-true}
+use borrow.Author.Tests.{le-leb, leb-true}
 use Rattle.laws.proofs.Cases.{and_yes, and_no, and_both}
 use Rattle.packet.specs.Table.{row_of}
 use Rattle.packet.specs.Reading.{codes_in, kind_in, count_of, part_at, has_entries, read_answer, part_by, body_of}
@@ -23,27 +23,11 @@ use Rattle.stories.specs.Parts.{part_in, total_in, right_head, in_reach, first_n
 use Rattle.stories.specs.Steps.{head_in}
 
 -- ---- the head
-last_no : (a b : Bool) → b ≡ false → (a && b) ≡ false
-last_no true b e = e
-last_no false b e = refl
-
 last_yes : (a b : Bool) → b ≡ true → a ≡ (a && b)
 last_yes true b e = sym e
 last_yes false b e = refl
 
 module _ (t : List ℕ) (k n : ℕ) where
-  pub head_first : k < 1 → head_in t k n ≡ false
-  unfolding head_in
-  head_first h = last_no (same (head_of k n) (take 4 t)) _ (and_no _ (lt-leb 1 k h))
-
-  pub head_behind : n < k → head_in t k n ≡ false
-  unfolding head_in
-  head_behind h = last_no (same (head_of k n) (take 4 t)) _ (last_no (leb 1 k) _ (and_no _ (lt-leb k n h)))
-
-  pub head_many : 9 < n → head_in t k n ≡ false
-  unfolding head_in
-  head_many h = last_no (same (head_of k n) (take 4 t)) _ (last_no (leb 1 k) _ (last_no (leb k n) _ (lt-leb n 9 h)))
-
   pub head_short : length t < 4 → head_in t k n ≡ false
   unfolding head_in
   head_short h = and_no _ (same_long (head_of k n) (take 4 t) (λ e. let z = ap length (take_all 4 t (omega arith)) in omega (arith, e, z)))
@@ -69,14 +53,6 @@ module _ (t : List ℕ) (k n : ℕ) where
       ]
 
 -- ---- the number
-pub reach_no : (d : List ℕ) (k n x : ℕ) → x ≡ last_four d → x + 1 < k → in_reach d k n ≡ false
-unfolding in_reach
-reach_no d k n x e h = and_no _ (lt-leb k (last_four d + 1) (omega (arith, e)))
-
-pub reach_by : (d : List ℕ) (k n x : ℕ) → x ≡ last_four d → k ≤ x + 1 → leb (x + (n - k)) 9999 ≡ in_reach d k n
-unfolding in_reach
-reach_by d k n x e h = ap (λ (y : ℕ). leb (y + (n - k)) 9999) e ∙ sym (and_yes _ (le-leb k (last_four d + 1) (omega (arith, e))))
-
 pub reach_room : (d : List ℕ) (k n : ℕ) → in_reach d k n ≡ true → k ≤ last_four d + 1
 unfolding in_reach
 reach_room d k n e = leb-true _ _ (and_both (leb k (last_four d + 1)) _ e).0

@@ -1,13 +1,12 @@
 -- All stories: the place of one, the order of their waiting, a part kept. Assumes nothing.
 use mathlib.Core.Path.{◌≡◌, refl, sym, ap, ap₂, ◌∙◌}
-use mathlib.Core.List.{List, [], ◌∷◌, ◌++◌}
+use mathlib.Core.List.{List}
 use mathlib.Core.Bool.{true, false, not, ◌&&◌}
-use Prim.Native.Nat.{ℕ, suc, ◌+◌, ◌≤◌, ◌<◌}
-use native.Mathlib.Numerals.{add-one}
+use Prim.Native.Nat.{ℕ, ◌+◌, ◌≤◌, ◌<◌}
 use native.Mathlib.Decide.{dec_lt}
 use native.Mathlib.Omega.{arith}
-use lib.ListN.{length, take, drop, get_or, set, drop_of_length-le, get_or-eq_default}
-use lib.Seq.{sets, drop-cons, take-suc-set, drop-set-lt, append_snoc, set_split}
+use lib.ListN.{length, get_or, get_or-eq_default}
+use lib.Seq.{sets}
 use lib.Dec.{leb}
 use borrow.Author.Tests.{le-leb}
 use Rattle.laws.specs.Scan.{all}
@@ -20,26 +19,6 @@ use Rattle.stories.specs.Tales.{zeros, untold, blank, is_story, fair, contradict
 use Rattle.stories.specs.Stories.{index_of_story, tale_of, moved_last, leaves, after, kept, repeated}
 use Rattle.stories.specs.Steps.{Steady, found_for, unshown_with, shown_with, kept_shown, kept_output}
 use Rattle.stories.proofs.Texts.{fair_free, held_steady, open_free}
-
--- ---- a place more moves up; the last is written
-module _ (ps : List Tale) (i : ℕ) (q : Tale) where
-  pub move_turn : (z : Tale) → i + 1 < length ps → moved_last (set ps i (get_or ps (i + 1) z)) (i + 1) q ≡ moved_last ps i q
-  move_turn z h =
-      let a = get_or ps (i + 1) z in
-      let B = q ∷ [] in
-      let t : take (i + 1) (set ps i a) ≡ take i ps ++ (a ∷ []) = ap (λ (m : ℕ). take m (set ps i a)) (add-one i) ∙ take-suc-set ps i a (omega arith) in
-      let d : drop (i + 1 + 1) (set ps i a) ≡ drop (suc (i + 1)) ps = drop-set-lt (i + 1 + 1) ps i a (omega arith) ∙ ap (λ (m : ℕ). drop m ps) (add-one (i + 1)) in
-      ap₂ (λ (u v : List Tale). u ++ (v ++ B)) t d
-      ∙ append_snoc (take i ps) a (drop (suc (i + 1)) ps ++ B)
-      ∙ ap (λ (u : List Tale). take i ps ++ (u ++ B)) (sym (drop-cons ps (i + 1) z h))
-
-  pub move_end : length ps ≡ i + 1 → set ps i q ≡ moved_last ps i q
-  move_end h =
-      let e : drop (suc i) ps ≡ [] = drop_of_length-le ps {i = suc i} (omega arith) in
-      let d : drop (i + 1) ps ≡ [] = drop_of_length-le ps {i = i + 1} (omega arith) in
-      set_split ps i q (omega arith)
-      ∙ ap (λ (u : List Tale). take i ps ++ (q ∷ u)) e
-      ∙ ap (λ (u : List Tale). take i ps ++ (u ++ (q ∷ []))) (sym d)
 
 -- ---- the place of a story
 module _ (x : Part) (ps : List Tale) where

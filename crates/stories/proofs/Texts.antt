@@ -1,24 +1,25 @@
 -- One story's place: its test, its texts, a part kept in it. Assumes nothing.
 use mathlib.Core.Path.{◌≡◌, refl, sym, ap, ap₂, ◌∙◌}
-use mathlib.Core.List.{List, [], ◌++◌}
-use mathlib.Core.Bool.{true, false, not, ◌&&◌}
-use Prim.Native.Nat.{ℕ, suc, ◌+◌, ◌-◌, ◌*◌, ◌≤◌, ◌<◌}
+use mathlib.Core.List.{List, [], ◌∷◌, ◌++◌}
+use mathlib.Core.Bool.{Bool, true, false, not, ◌&&◌}
+use Prim.Native.Nat.{ℕ, zero, suc, ◌+◌, ◌-◌, ◌*◌, ◌≤◌, ◌<◌}
 use native.Mathlib.Omega.{arith}
 use lib.ListN.{length, take, drop, get_or, length-drop, length-take, length-append}
-use lib.Seq.{sets, length-sets, length-take-le}
+use lib.Seq.{take-suc, sets, length-sets, length-take-le}
 use lib.Dec.{leb, eqb}
-use borrow.Author.Tests.{le-leb, lt-leb, leb-true, eq-eqb, ne_eqb, eqb-true, eqb-false}
+use borrow.Author.Tests.{leb-true, eq-eqb, ne_eqb}
 use borrow.Rule.Slice.PartMut.{put_mid}
-use Rattle.laws.proofs.Cases.{if_yes, if_no, and_yes, and_no, and_both, or_yes, or_no}
-use Rattle.laws.proofs.Elements.{by_test, all_at}
-use Rattle.laws.proofs.Below.{below_yes, below_no}
+use Rattle.laws.proofs.Cases.{if_no, and_no, and_both, or_yes, or_no}
+use Rattle.laws.proofs.Elements.{all_at}
 use Rattle.laws.proofs.Writes.{sets_append}
-use Rattle.laws.specs.Lists.{same}
+use Rattle.std.proofs.lemmas.List.Folds.{list_all-append}
+use Rattle.laws.specs.Below.{below}
+use Rattle.laws.specs.Scan.{all}
 use Rattle.laws.proofs.Parts.{in_place}
 use Rattle.story.proofs.Copying.{copied_in}
 use Rattle.stories.specs.declared.Part.{Part}
 use Rattle.stories.specs.declared.Tale.{Tale}
-use Rattle.stories.specs.Tales.{fair, is_heard, text_at, holds_text, contradicts, is_whole, texts_from, whole_text, taken_for, opened}
+use Rattle.stories.specs.Tales.{fair, is_heard, text_at, is_whole, texts_from, whole_text, taken_for, opened}
 use Rattle.stories.specs.Steps.{all_short, Steady}
 
 -- ---- a fair place
@@ -26,18 +27,6 @@ module _ (p : Tale) where
   pub fair_free : not p.held ≡ true → fair p ≡ true
   unfolding fair
   fair_free e = or_yes _ e
-
-  pub fair_none : not p.held ≡ false → p.total < 1 → fair p ≡ false
-  unfolding fair
-  fair_none e h = or_no _ e ∙ and_no _ (lt-leb 1 p.total h)
-
-  pub fair_many : not p.held ≡ false → 1 ≤ p.total → 9 < p.total → fair p ≡ false
-  unfolding fair
-  fair_many e g h = or_no _ e ∙ and_yes _ (le-leb 1 p.total g) ∙ and_no _ (lt-leb p.total 9 h)
-
-  pub fair_by : not p.held ≡ false → 1 ≤ p.total → p.total ≤ 9 → all_short p.lengths ≡ fair p
-  unfolding fair
-  fair_by e g h = sym (or_no _ e ∙ and_yes _ (le-leb 1 p.total g) ∙ and_yes _ (le-leb p.total 9 h))
 
   -- what it tells of one that is held
   pub held_steady : fair p ≡ true → p.held ≡ true → Steady p
@@ -76,53 +65,37 @@ module _ (p : Tale) (k : ℕ) where
   unfolding is_heard
   heard e = ap not (ne_eqb _ _ e)
 
-  pub holds_not : (t : List ℕ) → get_or p.lengths k 0 ≡ 0 → (p.held && holds_text p k t) ≡ false
-  unfolding holds_text
-  holds_not t e = by_test p.held (λ h. and_yes _ h ∙ and_no _ (not_heard e)) (λ h. and_no _ h)
-
-  pub holds_by : (t : List ℕ) → p.held ≡ true → (get_or p.lengths k 0 ≡ 0 → ⊥) → same (text_at p k) t ≡ (p.held && holds_text p k t)
-  unfolding holds_text
-  holds_by t h e = sym (and_yes _ h ∙ and_yes _ (heard e))
-
 -- ---- opened
 module _ (p : Tale) (x : Part) (t : List ℕ) where
   pub open_free : p.held ≡ false → taken_for x ≡ opened p x t
   unfolding opened
   open_free e = sym (if_no _ _ (and_no _ e))
 
-  pub open_new : p.held ≡ true → get_or p.lengths x.place 0 ≡ 0 → p ≡ opened p x t
-  unfolding opened contradicts
-  open_new h e = sym (if_yes _ _ (and_yes _ h ∙ ap not (and_no _ (not_heard p x.place e))))
-
-  pub open_same : p.held ≡ true → (get_or p.lengths x.place 0 ≡ 0 → ⊥) → same (text_at p x.place) t ≡ true → p ≡ opened p x t
-  unfolding opened contradicts
-  open_same h e f = sym (if_yes _ _ (and_yes _ h ∙ ap not (and_yes _ (heard p x.place e) ∙ ap not f)))
-
-  pub open_other : p.held ≡ true → (get_or p.lengths x.place 0 ≡ 0 → ⊥) → same (text_at p x.place) t ≡ false → taken_for x ≡ opened p x t
-  unfolding opened contradicts
-  open_other h e f = sym (if_no _ _ (and_yes _ h ∙ ap not (and_yes _ (heard p x.place e) ∙ ap not f)))
-
 -- ---- a part is kept
 pub text_kept : (l t part : List ℕ) (k : ℕ) → length l ≡ 1341 → k < 9 → length t ≤ 149 → part ≡ t → put_mid (149 * k) (149 * k + length t - 149 * k) l part ≡ sets l (149 * k) t
 text_kept l t part k n h g e = copied_in l t part (149 * k) (omega (arith, n)) e
 
 -- ---- every part
-pub whole_stop : (p : Tale) (k : ℕ) → k < p.total → get_or p.lengths k 0 ≡ 0 → is_whole p ≡ false
+turned : (a b : Bool) → (a && (b && true)) ≡ (b && a)
+turned true true = refl
+turned true false = refl
+turned false true = refl
+turned false false = refl
+
+-- of the first k lengths none is 0
+heard_below : (p : Tale) (k : ℕ) → k ≤ length p.lengths → all (λ n. not (eqb n 0)) (take k p.lengths) ≡ below k (is_heard p)
+unfolding below is_heard
+heard_below p zero h = refl
+heard_below p (suc k) h =
+    let f : ℕ → Bool = λ n. not (eqb n 0) in
+    ap (all f) (take-suc p.lengths k 0 h)
+    ∙ list_all-append f (take k p.lengths) (get_or p.lengths k 0 ∷ [])
+    ∙ turned (all f (take k p.lengths)) (f (get_or p.lengths k 0))
+    ∙ ap (λ b. f (get_or p.lengths k 0) && b) (heard_below p k (omega (arith, h)))
+
+pub whole_is : (p : Tale) → p.total ≤ length p.lengths → all (λ n. not (eqb n 0)) (take p.total p.lengths) ≡ is_whole p
 unfolding is_whole
-whole_stop p k h e = below_no p.total (is_heard p) k h (not_heard p k e)
-
-abbrev pub HeardTo : Tale → ℕ → Type 0
-HeardTo p k = (j : ℕ) → j < k → is_heard p j ≡ true
-
-pub whole_next : (p : Tale) (k : ℕ) → HeardTo p k → (get_or p.lengths k 0 ≡ 0 → ⊥) → HeardTo p (k + 1)
-whole_next p k g e j h =
-    by_test (eqb j k)
-    (λ t. ap (is_heard p) (eqb-true j k t) ∙ heard p k e)
-    (λ t. let z = eqb-false j k t in g j (omega (arith, z)))
-
-pub whole_end : (p : Tale) (k : ℕ) → HeardTo p k → p.total ≤ k → is_whole p ≡ true
-unfolding is_whole
-whole_end p k g h = below_yes p.total (is_heard p) (λ j l. g j (omega arith))
+whole_is p h = heard_below p p.total h
 
 -- ---- the texts, put one behind the other: k parts and `to` bytes of the output are done
 texts_next : (p : Tale) (k : ℕ) → k < p.total → texts_from p k (p.total - k) ≡ text_at p k ++ texts_from p (k + 1) (p.total - (k + 1))

@@ -2,7 +2,6 @@
 use Rattle.std.specs.Prelude.{◌≡◌, refl, List, [], ◌∷◌, true, false, ℕ, replicate}
 use Rattle.laws.specs.Scan.{all, index_of}
 use Rattle.laws.specs.Below.{below}
-use Rattle.laws.specs.Lists.{same}
 use Rattle.stories.specs.declared.Part.{Part}
 use Rattle.stories.specs.declared.Tale.{Tale}
 use Rattle.stories.specs.Tales.{zeros, is_story, fair, is_heard, text_at, holds_text, contradicts, is_whole, texts_from, whole_text, opened}

@@ -4,7 +4,7 @@
 mod parts;
 mod tales;
 
-ghost use Rattle.std.specs.Prelude.{◌≡◌, ◌<◌, length};
+ghost use Rattle.std.specs.Prelude.{◌≡◌, ◌<◌, length, MatchOption};
 ghost use Rattle.laws.specs.Scan.{all};
 ghost use Rattle.stories.specs.Tales.{fair};
 ghost use Rattle.stories.specs.Stories.{no_stories, index_of_story, leaves, moved_last, taken_in, taken_output};
@@ -49,38 +49,23 @@ pub struct Shown {
 pub fn none() -> Stories
     ensures { result ≡ no_stories }
 {
-    let p = tales::untold();
-    Stories { tales: [p; 4] }
+    Stories {
+        tales: [tales::untold(); 4],
+    }
 }
 
 // Whether the record is one that taking packets in can leave.
 pub fn is_good(stories: Stories) -> bool
     ensures { result ≡ all fair stories.tales }
 {
-    let mut i: usize = 0;
-    while i < 4 {
-        let p = stories.tales[i];
-        if !tales::is_fair(p) {
-            return false;
-        }
-        i += 1;
-    }
-    true
+    stories.tales.iter().all(|p| tales::is_fair(*p))
 }
 
-// Where the story is held; 4 where it isn't.
-fn index_of(s: Stories, x: Part) -> usize
-    ensures { result ≡ index_of_story x s.tales }
+// Where the story is held, if it is.
+fn index_of(s: Stories, x: Part) -> Option<usize>
+    ensures { let at = index_of_story x s.tales in MatchOption result (at ≡ 4) (λ i. (i ≡ at) × (i < 4)) }
 {
-    let mut i: usize = 0;
-    while i < 4 {
-        let p = s.tales[i];
-        if tales::is_story(p, x) {
-            return i;
-        }
-        i += 1;
-    }
-    i
+    s.tales.iter().position(|p| tales::is_story(*p, x))
 }
 
 // The stories with the one at `j` gone and `q` behind the others.
@@ -89,12 +74,7 @@ fn move_last(s: Stories, j: usize, q: Tale) -> Stories
     ensures { result ≡ record { tales = moved_last s.tales j q } }
 {
     let mut d = s;
-    let mut i: usize = j;
-    while i < 3 {
-        let p = d.tales[i + 1];
-        d.tales[i] = p;
-        i += 1;
-    }
+    d.tales[j..].rotate_left(1);
     d.tales[3] = q;
     d
 }
@@ -103,12 +83,11 @@ fn move_last(s: Stories, j: usize, q: Tale) -> Stories
 fn unshown(answer: u8, s: Stories) -> Shown
     ensures { result ≡ unshown_with answer s }
 {
-    let number = [0u8; 35];
     Shown {
-        answer: answer,
+        answer,
         length: 0,
         parts: 0,
-        number: number,
+        number: [0; 35],
         stories: s,
     }
 }
@@ -122,28 +101,19 @@ fn show(x: Part, n: usize, s: Stories) -> Shown
         answer: 1,
         length: n,
         parts: x.total,
-        number: number,
+        number,
         stories: s,
     }
 }
 
 // The place that the part's story is held in, and it; else the first place, and one that is not held.
-#[derive(Clone, Copy)]
-struct Found {
-    at: usize,
-    tale: Tale,
-}
-
-fn find(s: Stories, x: Part) -> Found
-    ensures { (result.at ≡ leaves s.tales x) × (result.tale ≡ found_for x s.tales) }
+fn find(s: Stories, x: Part) -> (usize, Tale)
+    ensures { (result.0 ≡ leaves s.tales x) × (result.1 ≡ found_for x s.tales) }
 {
-    let i = index_of(s, x);
-    if i < 4 {
-        let p = s.tales[i];
-        return Found { at: i, tale: p };
+    match index_of(s, x) {
+        Some(i) => (i, s.tales[i]),
+        None => (0, tales::untold()),
     }
-    let p = tales::untold();
-    Found { at: 0, tale: p }
 }
 
 // Takes in a part of a story: 5, 4, or 1 with its text in the output.
@@ -152,14 +122,13 @@ fn keep(s: Stories, x: Part, text: &[u8], out: &mut [u8]) -> Shown
     ensures answer { result ≡ kept_shown s x text.now }
     ensures output { out.new ≡ kept_output s x text.now out.old }
 {
-    let f = find(s, x);
-    let p = f.tale;
+    let (at, p) = find(s, x);
     let k = x.place as usize;
     if tales::repeats(p, k, text) {
         return unshown(5, s);
     }
     let q = tales::with_text(tales::open(p, x, text), k, text);
-    let d = move_last(s, f.at, q);
+    let d = move_last(s, at, q);
     if !tales::is_whole(q) {
         return unshown(4, d);
     }
@@ -188,6 +157,5 @@ pub fn take_in(stories: Stories, packet: &[u8], out: &mut [u8]) -> Shown
         out[0..n].copy_from_slice(body);
         return show(x, n, stories);
     }
-    let n = body.len();
-    keep(stories, x, &body[4..n], out)
+    keep(stories, x, &body[4..], out)
 }

@@ -11,15 +11,12 @@ use crate::{Part, Tale};
 pub(crate) fn untold() -> Tale
     ensures { result ≡ untold_tale }
 {
-    let number = [0u8; 35];
-    let lengths = [0u8; 9];
-    let bytes = [0u8; 1341];
     Tale {
         held: false,
-        number: number,
+        number: [0; 35],
         total: 0,
-        lengths: lengths,
-        bytes: bytes,
+        lengths: [0; 9],
+        bytes: [0; 1341],
     }
 }
 
@@ -28,62 +25,36 @@ fn take(x: Part) -> Tale
     ensures { result ≡ taken_for x }
 {
     let number = x.number;
-    let lengths = [0u8; 9];
-    let bytes = [0u8; 1341];
     Tale {
         held: true,
-        number: number,
+        number,
         total: x.total,
-        lengths: lengths,
-        bytes: bytes,
+        lengths: [0; 9],
+        bytes: [0; 1341],
     }
 }
 
 // Whether the place is held for the story that x is a part of.
+#[tactic(auto, unfolding(crate::specs::Tales::is_story))]
 pub(crate) fn is_story(p: Tale, x: Part) -> bool
     ensures { result ≡ is_story x p }
 {
-    if !p.held {
-        return false;
-    }
-    let a = p.number;
-    let b = x.number;
-    if !octets::same_bytes(&a, &b) {
-        return false;
-    }
-    p.total == x.total
+    p.held && p.number == x.number && p.total == x.total
 }
 
 // Whether a held place has a total of 1 to 9, and no body longer than a packet's can be.
+#[tactic(auto, unfolding(crate::specs::Tales::fair))]
 pub(crate) fn is_fair(p: Tale) -> bool
     ensures { result ≡ fair p }
 {
-    if !p.held {
-        return true;
-    }
-    if p.total < 1 {
-        return false;
-    }
-    if p.total > 9 {
-        return false;
-    }
-    let lengths = p.lengths;
-    short_bodies(&lengths)
+    !p.held || ((1..=9).contains(&p.total) && short_bodies(&p.lengths))
 }
 
 // No body is longer than 153 bytes.
 fn short_bodies(lengths: &[u8]) -> bool
     ensures { result ≡ all_short lengths.now }
 {
-    let n = lengths.len();
-    let mut i: usize = 0;
-    while i < n {
-        if lengths[i] > 153 {
-            return false;
-        }
-        i += 1;
-    }
-    true
+    lengths.iter().all(|n| *n <= 153)
 }
 
 // The length of the text of the part with k before it.
@@ -91,49 +62,40 @@ fn size_at(p: Tale, k: usize) -> usize
     requires { k < 9 }
     ensures { result ≡ get_or p.lengths k 0 - 4 }
 {
-    let n = p.lengths[k] as usize;
-    if n < 4 { 0 } else { n - 4 }
+    usize::from(p.lengths[k]).saturating_sub(4)
 }
 
 // Whether the part that was heard has this text.
+#[tactic(auto, unfolding(crate::specs::Tales::text_at))]
 fn same_text(p: Tale, k: usize, text: &[u8]) -> bool
     requires { (k < 9) × (all_short p.lengths ≡ true) }
     ensures { result ≡ same (text_at p k) text.now }
 {
-    let n = size_at(p, k);
     let at = 149 * k;
-    let b = p.bytes;
-    octets::same_bytes(&b[at..at + n], text)
+    &p.bytes[at..at + size_at(p, k)] == text
 }
 
 // Whether the part was heard before, with this text.
+#[tactic(auto, unfolding(crate::specs::Tales::holds_text, crate::specs::Tales::is_heard, crate::specs::Tales::fair))]
 pub(crate) fn repeats(p: Tale, k: usize, text: &[u8]) -> bool
     requires { (k < 9) × (fair p ≡ true) }
     ensures { result ≡ (p.held && holds_text p k text.now) }
 {
-    if !p.held {
-        return false;
-    }
-    if p.lengths[k] == 0 {
-        return false;
-    }
-    same_text(p, k, text)
+    p.held && p.lengths[k] != 0 && same_text(p, k, text)
 }
 
 // The place as it is; taken afresh where it is not held, or the part was heard with another text.
+#[tactic(auto, unfolding(crate::specs::Tales::opened, crate::specs::Tales::contradicts, crate::specs::Tales::is_heard, crate::specs::Tales::fair))]
 pub(crate) fn open(p: Tale, x: Part, text: &[u8]) -> Tale
     requires { (x.place < 9) × (fair p ≡ true) }
     ensures { result ≡ opened p x text.now }
 {
-    let k = x.place as usize;
-    if !p.held {
-        return take(x);
+    let k = usize::from(x.place);
+    if p.held && (p.lengths[k] == 0 || same_text(p, k, text)) {
+        p
+    } else {
+        take(x)
     }
-    let n = p.lengths[k];
-    if n == 0 {
-        return p;
-    }
-    if same_text(p, k, text) { p } else { take(x) }
 }
 
 // The place with the part kept.
@@ -142,12 +104,9 @@ pub(crate) fn with_text(p: Tale, k: usize, text: &[u8]) -> Tale
     ensures { result ≡ with_text p k text.now }
 {
     let at = 149 * k;
-    let mut b = p.bytes;
-    let end = at + text.len();
-    b[at..end].copy_from_slice(text);
     let mut q = p;
     q.lengths[k] = (4 + text.len()) as u8;
-    q.bytes = b;
+    q.bytes[at..at + text.len()].copy_from_slice(text);
     q
 }
 
@@ -156,15 +115,7 @@ pub(crate) fn is_whole(p: Tale) -> bool
     requires { p.total ≤ 9 }
     ensures { result ≡ is_whole p }
 {
-    let total = p.total as usize;
-    let mut k: usize = 0;
-    while k < total {
-        if p.lengths[k] == 0 {
-            return false;
-        }
-        k += 1;
-    }
-    true
+    p.lengths[..p.total as usize].iter().all(|n| *n != 0)
 }
 
 // Puts the text of a part to byte `to` of the output, and says where the next one goes.
@@ -175,9 +126,7 @@ fn put_text(p: Tale, k: usize, out: &mut [u8], to: usize) -> usize
 {
     let n = size_at(p, k);
     let at = 149 * k;
-    let b = p.bytes;
-    let end = to + n;
-    out[to..end].copy_from_slice(&b[at..at + n]);
+    out[to..to + n].copy_from_slice(&p.bytes[at..at + n]);
     to + n
 }
 
@@ -187,12 +136,9 @@ pub(crate) fn put_texts(p: Tale, out: &mut [u8]) -> usize
     ensures size { result ≡ length (whole_text p) }
     ensures output { out.new ≡ sets out.old 0 (whole_text p) }
 {
-    let n = p.total as usize;
-    let mut to: usize = 0;
-    let mut k: usize = 0;
-    while k < n {
+    let mut to = 0;
+    for k in 0..usize::from(p.total) {
         to = put_text(p, k, out, to);
-        k += 1;
     }
     to
 }

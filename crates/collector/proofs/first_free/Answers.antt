@@ -1,37 +1,16 @@
--- `collector::first_free`: what its goals need. The loop's invariant: the first free place is j places on from the first among those left. Assumes nothing.
-use mathlib.Core.Path.{◌≡◌, ap, ◌∙◌}
-use native.Mathlib.Omega.{arith}
-use mathlib.Core.List.{map}
-use lib.ListN.{length, length-map, get_or-map}
-use Rattle.laws.proofs.Scan.{index_next, index_stop, index_end}
-use Rattle.laws.proofs.Elements.{length_mapped}
-use Rattle.collector.specs.Collector.{is_free, index_of_free}
+-- `collector::first_free`: what its goals need. Assumes nothing.
+use Rattle.std.proofs.Common.{◌≡◌, length, rules, tests}
+use Rattle.std.proofs.lemmas.Iterator.{YieldsList-from_slice}
+use Rattle.std.proofs.lemmas.Iterator.Search.{position_from_yields_List}
+use Rattle.laws.proofs.Positions.{found_seen}
 use Rattle.collector.specs.Layout.{as_place}
-use borrow.Author.Rules.{rules}
+use Rattle.collector.specs.Collector.{is_free, index_of_free}
 use Rattle.collector.proofs.first_free.Goals as goal
-
-pub returns-then-not-p : goal.returns-then-not-p
-unfolding index_of_free
-returns-then-not-p c = let b = c in
-    let ps = b.args.c.places in
-    let xs = map as_place ps in
-    let n : length ps ≡ 4 = search (rules, length_mapped) in
-    let m = length-map ps as_place in
-    omega (arith, b.loop-j.invariant.1, index_stop is_free xs _ b.loop-j.j (omega arith) (ap is_free (get_or-map as_place ps b.loop-j.j _) ∙ c.if-not-p.true))
-
-pub loop-j-preserved : goal.loop-j-preserved
-loop-j-preserved c = let b = c in
-    let ps = b.args.c.places in
-    let xs = map as_place ps in
-    let n : length ps ≡ 4 = search (rules, length_mapped) in
-    let m = length-map ps as_place in
-    (search rules, omega (arith, b.loop-j.invariant.1, index_next is_free xs _ b.loop-j.j (omega arith) (ap is_free (get_or-map as_place ps b.loop-j.j _) ∙ c.if-not-p.false)))
 
 pub returns : goal.returns
 unfolding index_of_free
-returns c = let b = c in
-    let ps = b.args.c.places in
-    let xs = map as_place ps in
-    let n : length ps ≡ 4 = search (rules, length_mapped) in
-    let m = length-map ps as_place in
-    omega (arith, b.loop-j.invariant.1, index_end is_free xs b.loop-j.j (omega arith))
+returns c =
+    let ps = c.args.c.places in
+    let n : length ps ≡ 4 = search rules in
+    found_seen is_free as_place ps 4 c.position.result n
+    (position_from_yields_List (λ p. is_free (as_place p)) _ _ _ c.position.ensures.ran (YieldsList-from_slice ps cc) (λ x b q k. search (rules, tests)))

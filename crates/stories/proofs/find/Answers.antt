@@ -7,12 +7,14 @@ use Rattle.stories.proofs.Keeping.{found_held, found_none}
 use borrow.Author.Rules.{rules}
 use Rattle.stories.proofs.find.Goals as goal
 
-pub returns-then-i-lt4 : goal.returns-then-i-lt4
-returns-then-i-lt4 c = let ps = c.args.s.tales in
+pub returns-in-Some : goal.returns-in-Some
+returns-in-Some c =
+    let ps = c.args.s.tales in
     let n : length ps ≡ 4 = search (rules, length_mapped) in
-    found_held c.args.x ps c.index_of-i.result c.index_of-i.ensures (omega (arith, n, c.if-i-lt4.true))
+    found_held c.args.x ps c.in-Some.i c.in-Some.ensures.0 (omega (arith, n, c.in-Some.ensures.1))
 
-pub returns : goal.returns
-returns c = let ps = c.args.s.tales in
+pub returns-in-None : goal.returns-in-None
+returns-in-None c =
+    let ps = c.args.s.tales in
     let n : length ps ≡ 4 = search (rules, length_mapped) in
-    found_none c.args.x ps c.untold-p.result c.untold-p.ensures (omega (arith, n, c.if-i-lt4.false, c.index_of-i.ensures))
+    found_none c.args.x ps c.untold.result c.untold.ensures (omega (arith, n, c.in-None.ensures))

@@ -1,30 +1,14 @@
 -- `stories::index_of`: what its goals need. Assumes nothing.
-use mathlib.Core.Path.{◌≡◌, sym, ◌∙◌}
-use native.Mathlib.Omega.{arith}
-use lib.ListN.{length}
-use Rattle.laws.proofs.Scan.{index_next, index_stop, index_end}
-use Rattle.laws.proofs.Elements.{length_mapped}
+use Rattle.std.proofs.Common.{◌≡◌, length, rules, tests}
+use Rattle.std.proofs.lemmas.Iterator.{YieldsList-from_slice}
+use Rattle.std.proofs.lemmas.Iterator.Search.{position_from_yields_List}
+use Rattle.laws.proofs.Positions.{found_first}
 use Rattle.stories.specs.Tales.{is_story}
-use borrow.Author.Rules.{rules}
 use Rattle.stories.proofs.index_of.Goals as goal
 
-pub returns-then-is_story : goal.returns-then-is_story
-returns-then-is_story c = let b = c in
-    let i = b.loop-i.i in
-    let xs = b.args.s.tales in
-    let n : length xs ≡ 4 = search (rules, length_mapped) in
-    omega (arith, b.loop-i.invariant.1, index_stop (is_story b.args.x) xs _ i (omega arith) (sym c.is_story.ensures ∙ c.if-is_story.true))
-
-pub loop-i-preserved : goal.loop-i-preserved
-loop-i-preserved c = let b = c in
-    let i = b.loop-i.i in
-    let xs = b.args.s.tales in
-    let n : length xs ≡ 4 = search (rules, length_mapped) in
-    (search rules, omega (arith, b.loop-i.invariant.1, index_next (is_story b.args.x) xs _ i (omega arith) (sym c.is_story.ensures ∙ c.if-is_story.false)))
-
 pub returns : goal.returns
-returns c = let b = c in
-    let i = b.loop-i.i in
-    let xs = b.args.s.tales in
-    let n : length xs ≡ 4 = search (rules, length_mapped) in
-    omega (arith, b.loop-i.invariant.1, index_end (is_story b.args.x) xs i (omega arith))
+returns c =
+    let ps = c.args.s.tales in
+    let n : length ps ≡ 4 = search rules in
+    found_first (is_story c.args.x) ps 4 c.position.result n
+    (position_from_yields_List (is_story c.args.x) _ _ _ c.position.ensures.ran (YieldsList-from_slice ps cc) (λ x b q k. search (rules, tests)))

@@ -1,11 +1,6 @@
 -- `stories::tales::put_texts`: what its goals need. Assumes nothing.
-use mathlib.Core.Path.{◌≡◌}
-use Prim.Native.Nat.{◌-◌, ◌≤◌}
 use Rattle.stories.proofs.Texts.{Putting}
 use Rattle.stories.proofs.tales.put_texts.Given as goal
 
 abbrev pub invariant-loop-k : goal.invariant-loop-k
-invariant-loop-k l = Putting l.p l.initial.out l.out l.to l.k × (l.k ≤ l.n) × (l.n ≡ l.p.total)
-
-abbrev pub decreases-loop-k : goal.decreases-loop-k
-decreases-loop-k l = l.n - l.k
+invariant-loop-k l = Putting l.p l.initial.out l.out l.to l.k

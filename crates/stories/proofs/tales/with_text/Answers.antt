@@ -8,8 +8,8 @@ use Rattle.stories.proofs.Texts.{text_kept}
 use borrow.Author.Rules.{rules}
 use Rattle.stories.proofs.tales.with_text.Goals as goal
 
-pub slice_bounds-b-end : goal.slice_bounds-b-end
-slice_bounds-b-end c = let m : length c.args.p.bytes ≡ 1341 = search (rules, c.well_formed) in
+pub slice_bounds-copy_from_slice-end : goal.slice_bounds-copy_from_slice-end
+slice_bounds-copy_from_slice-end c = let m : length c.args.p.bytes ≡ 1341 = search (rules, c.well_formed) in
     omega (arith, m, c.requires.0)
 
 pub returns : goal.returns
