@@ -50,11 +50,10 @@ fn content_told(c: Content) -> PlainContent
     ensures { result ≡ content_told c }
 {
     let l = packet::lay(c);
-    let kind = l.kind;
     let numbers = l.numbers;
     PlainContent {
-        kind: packet::type_of(kind),
-        numbers: numbers,
+        kind: packet::type_of(l.kind),
+        numbers,
         count: l.count,
     }
 }
@@ -73,21 +72,19 @@ pub fn codec_read(
     ensures beside { digits.new ≡ unless_refused (opened packet.now) (opened packet.now).fields.digits digits.old }
 {
     let t = reader::read_to(packet, codes, entries, digits);
-    let c = t.content;
-    let content = content_told(c);
     let certificate = t.certificate;
     let signature = t.signature;
     let fields = PlainFields {
         typenumber: t.typenumber,
         codes: t.codes,
-        content: content,
+        content: content_told(t.content),
         time: t.time,
-        certificate: certificate,
-        signature: signature,
+        certificate,
+        signature,
     };
     PlainTold {
         answer: t.answer,
-        fields: fields,
+        fields,
     }
 }
 
@@ -95,25 +92,22 @@ pub fn codec_read(
 fn content_from(c: PlainContent) -> Content
     ensures { result ≡ content_from c }
 {
-    let numbers = c.numbers;
-    packet::named(packet::kind_of(c.kind), &numbers, c.count)
+    packet::named(packet::kind_of(c.kind), &c.numbers, c.count)
 }
 
 fn fields_from(f: PlainFields, digits: [u8; 35]) -> Fields
     ensures { result ≡ fields_from f digits }
 {
-    let p = f.content;
-    let c = content_from(p);
     let certificate = f.certificate;
     let signature = f.signature;
     Fields {
         typenumber: f.typenumber,
         codes: f.codes,
-        content: c,
-        digits: digits,
+        content: content_from(f.content),
+        digits,
         time: f.time,
-        certificate: certificate,
-        signature: signature,
+        certificate,
+        signature,
     }
 }
 
@@ -128,8 +122,7 @@ pub fn codec_write(
     ensures answer { result ≡ written_as (written (fields_from fields digits.now) codes.now body.now (length out.old)) }
     ensures output { out.new ≡ packet_output (fields_from fields digits.now) codes.now body.now out.old }
 {
-    let d = *digits;
-    let f = fields_from(fields, d);
+    let f = fields_from(fields, *digits);
     let w = writer::write(f, codes, body, out);
     PlainWritten {
         answer: w.answer,

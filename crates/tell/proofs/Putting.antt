@@ -1,6 +1,6 @@
 -- A part's number, head and packet as the code puts them. Assumes nothing.
 use mathlib.Core.Path.{◌≡◌, sym, ap, ap₂, ◌∙◌}
-use mathlib.Core.List.{List, [], ◌∷◌}
+use mathlib.Core.List.{List}
 use Prim.Native.Nat.{ℕ, ◌+◌, ◌-◌, ◌≤◌}
 use native.Mathlib.Omega.{arith}
 use lib.ListN.{length, take, drop, length-append, replicate, length-replicate}
@@ -13,9 +13,6 @@ use Rattle.story.specs.Telling.{head_of, number_after, fields_with, part_fields,
 use Rattle.story.specs.Given.{Lengths}
 use Rattle.story.proofs.Part.{part_written, part_long}
 use Rattle.tell.specs.Steps.{Sendable}
-
-pub head_set : (l : List ℕ) (k n : ℕ) → sets l 0 ((49 + k) ∷ 47 ∷ (48 + n) ∷ 32 ∷ []) ≡ sets l 0 (head_of (k + 1) n)
-head_set l k n = let e : 49 + k ≡ 48 + (k + 1) = omega arith in ap (λ (x : ℕ). sets l 0 (x ∷ 47 ∷ (48 + n) ∷ 32 ∷ [])) e
 
 -- what the writer leaves where it takes the part
 pub part_put : (s : Story) (codes : List ℕ) (n k : ℕ) (piece out : List ℕ) → Lengths s → Sendable s codes n k piece (length out)

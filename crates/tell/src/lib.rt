@@ -7,13 +7,14 @@ mod packets;
 ghost use Rattle.std.specs.Prelude.{◌≡◌, length};
 ghost use Rattle.story.specs.Telling.{told, tell_output};
 
+use packets::Parts;
 use story::{Story, Told};
 
 fn refused(answer: u8) -> Told
     ensures { result ≡ record { answer = answer; parts = 0; length = 0 } }
 {
     Told {
-        answer: answer,
+        answer,
         parts: 0,
         length: 0,
     }
@@ -38,18 +39,22 @@ pub fn tell(story: Story, codes: &[u8], text: &[u8], out: &mut [u8]) -> Told
     if n > 9 {
         return refused(31);
     }
-    let digits = story.digits;
-    if story::last_four(&digits) as usize + (n - 1) > 9999 {
+    if story::last_four(&story.digits) as usize + (n - 1) > 9999 {
         return refused(32);
     }
     let length = n * each + text.len();
     if out.len() < length {
         return refused(10);
     }
-    packets::put_all(story, codes, text, n, room, each, out);
+    let parts = Parts {
+        count: n,
+        room,
+        each,
+    };
+    packets::put_all(story, codes, text, parts, out);
     Told {
         answer: 0,
         parts: n,
-        length: length,
+        length,
     }
 }

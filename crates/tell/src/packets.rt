@@ -9,6 +9,14 @@ use crate::characters;
 use packet::{Content, Fields};
 use story::Story;
 
+// How a text is parted: into how many parts, how many bytes of it have room in one, and how many more a packet has.
+#[derive(Clone, Copy)]
+pub(crate) struct Parts {
+    pub(crate) count: usize,
+    pub(crate) room: usize,
+    pub(crate) each: usize,
+}
+
 // The message number k after.
 fn number_after(digits: [u8; 35], k: usize) -> [u8; 35]
     requires { k < 9 }
@@ -32,10 +40,10 @@ fn fields_with(story: Story, digits: [u8; 35], t: usize) -> Fields
             set: 0,
             length: t,
         },
-        digits: digits,
+        digits,
         time: story.time,
-        certificate: certificate,
-        signature: signature,
+        certificate,
+        signature,
     }
 }
 
@@ -43,11 +51,9 @@ fn fields_with(story: Story, digits: [u8; 35], t: usize) -> Fields
 pub(crate) fn own_answer(story: Story, codes: &[u8]) -> u8
     ensures { result ≡ written_answer (fields_with story story.digits 4) codes.now (head_of 1 1) 250 }
 {
-    let digits = story.digits;
-    let head = [49u8, 47, 49, 32];
-    let f = fields_with(story, digits, 4);
+    let f = fields_with(story, story.digits, 4);
     let mut scratch = [0u8; 250];
-    let w = writer::write(f, codes, &head, &mut scratch);
+    let w = writer::write(f, codes, b"1/1 ", &mut scratch);
     w.answer
 }
 
@@ -56,12 +62,10 @@ fn put_head(n: usize, k: usize, body: &mut [u8])
     requires { (n ≤ 9) × (k < 9) × (4 ≤ length body.old) }
     ensures { body.new ≡ sets body.old 0 (head_of (k + 1) n) }
 {
-    let a = (49 + k) as u8;
-    let b = (48 + n) as u8;
-    body[0] = a;
-    body[1] = 47;
-    body[2] = b;
-    body[3] = 32;
+    body[0] = b'1' + k as u8;
+    body[1] = b'/';
+    body[2] = b'0' + n as u8;
+    body[3] = b' ';
 }
 
 // The text behind the head.
@@ -78,8 +82,7 @@ fn put_part(story: Story, codes: &[u8], n: usize, k: usize, piece: &[u8], out: &
     requires { Sendable story codes.now n k piece.now (length out.old) }
     ensures { out.new ≡ sets out.old 0 (part_packet story codes.now n k piece.now) }
 {
-    let digits = story.digits;
-    let d = number_after(digits, k);
+    let d = number_after(story.digits, k);
     let t = 4 + piece.len();
     let f = fields_with(story, d, t);
     let mut body = [0u8; 250];
@@ -89,26 +92,16 @@ fn put_part(story: Story, codes: &[u8], n: usize, k: usize, piece: &[u8], out: &
 }
 
 // The packets of all parts.
-pub(crate) fn put_all(
-    story: Story,
-    codes: &[u8],
-    text: &[u8],
-    n: usize,
-    room: usize,
-    each: usize,
-    out: &mut [u8],
-)
-    requires { AllSendable story codes.now text.now n room each (length out.old) }
+pub(crate) fn put_all(story: Story, codes: &[u8], text: &[u8], parts: Parts, out: &mut [u8])
+    requires { AllSendable story codes.now text.now parts.count parts.room parts.each (length out.old) }
     ensures { out.new ≡ sets out.old 0 (bytes_of story codes.now text.now) }
 {
-    let mut k: usize = 0;
     let mut i: usize = 0;
     let mut p: usize = 0;
-    while k < n {
-        let e = characters::part_end(text, i, room);
-        put_part(story, codes, n, k, &text[i..e], &mut out[p..]);
-        p += each + (e - i);
+    for k in 0..parts.count {
+        let e = characters::part_end(text, i, parts.room);
+        put_part(story, codes, parts.count, k, &text[i..e], &mut out[p..]);
+        p += parts.each + (e - i);
         i = e;
-        k += 1;
     }
 }

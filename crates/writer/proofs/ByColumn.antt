@@ -74,9 +74,6 @@ pub every_start : (f : ℕ → Bool) → every 0 f ≡ true
 unfolding every
 every_start f = refl
 
-pub every_end : (n r : ℕ) (f : ℕ → Bool) → r ≤ n → n ≤ r → every r f ≡ true → every n f ≡ true
-every_end n r f h k e = let x : n ≡ r = omega arith in ap (λ (m : ℕ). every m f) x ∙ e
-
 pub every_turn : (f : ℕ → Bool) (r : ℕ) → every r f ≡ true → f r ≡ true → every (r + 1) f ≡ true
 unfolding every
 every_turn f r e g = rw (add-one, e, g)

@@ -1,14 +1,13 @@
 -- A count and bytes put into bits. Assumes nothing.
 use mathlib.Core.Path.{◌≡◌, refl, sym, ap, ◌∙◌}
 use mathlib.Core.List.{List, [], ◌∷◌, ◌++◌, append-nil}
-use Prim.Native.Nat.{ℕ, ◌+◌, ◌*◌, ◌<◌, ◌≤◌}
+use Prim.Native.Nat.{ℕ, ◌+◌, ◌<◌, ◌≤◌}
 use native.Mathlib.Omega.{arith}
-use lib.ListN.{length}
 use lib.Seq.{sets}
 use Rattle.laws.specs.Bits.{bits, bits_of, spread}
 use Rattle.laws.proofs.Cases.{if_yes}
 use Rattle.format.specs.Format.{just, size, encode, fill}
-use Rattle.format.specs.Reach.{field_bits, fields_bits}
+use Rattle.format.specs.Reach.{field_bits}
 use Rattle.format.proofs.Leaves.{reached}
 use Rattle.packet.specs.declared.Counting.{Counting}
 use Rattle.packet.specs.Table.{count_line}
@@ -31,11 +30,6 @@ count_put out last p k h e =
       put = e ∙ ap (sets (bits out) p) (if_yes (bits_of 8 k) [] (reached p 1 8 (omega arith) (omega arith) (omega arith)) ∙ sym (append-nil (bits_of 8 k ++ []) ∙ append-nil (bits_of 8 k)));
       place = refl;
     }
-
--- bytes
-pub octets_put : (out last xs : List ℕ) (p : ℕ) → p < 30000 → length xs ≤ 255 → bits last ≡ sets (bits out) p (fields_bits p 8 xs) → After out last p (spread 8 xs) (p + 8 * length xs) (8 * length xs)
-octets_put out last xs p h l e =
-    record { put = e ∙ ap (sets (bits out) p) (if_yes (spread 8 xs) [] (reached p (length xs) 8 (omega arith) (omega arith) (omega arith))); place = refl }
 
 -- a number
 pub field_put : (out last : List ℕ) (p w x : ℕ) → p < 50000 → w ≤ 32 → bits last ≡ sets (bits out) p (field_bits p w x) → After out last p (bits_of w x) (p + w) w

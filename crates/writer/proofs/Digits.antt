@@ -2,15 +2,14 @@
 use mathlib.Core.Path.{◌≡◌, refl, sym, ap, ◌∙◌}
 use mathlib.Core.Bool.{Bool, true, false, not, ◌&&◌, ◌||◌, and-true, and_comm, and_assoc, or-true, or-false, not-not}
 use mathlib.Core.List.{List, ◌∷◌, ◌++◌}
-use Prim.Native.Nat.{ℕ, ◌+◌, ◌-◌}
+use Prim.Native.Nat.{ℕ, ◌-◌}
 use native.Mathlib.Omega.{arith}
 use lib.ListN.{length, take, drop, length-drop, take-append-drop}
 use lib.Seq.{take_all}
 use Rattle.format.specs.Format.{fill, times, inside, fine}
-use Rattle.packet.specs.declared.Content.{Content}
 use Rattle.packet.specs.declared.Fields.{Fields}
 use Rattle.packet.specs.Table.{code, ending}
-use Rattle.packet.specs.Writing.{table_for, values_for, digits_before, digits_after, digits_lost, digit_bad}
+use Rattle.packet.specs.Writing.{table_for, values_for, digit_bad}
 use Rattle.writer.specs.Parts.{Counts, front_fine, rows_fine, back_fine, own_fine}
 use Rattle.writer.proofs.Fine.{digit, range, packet_fine, inside_append}
 use Rattle.writer.proofs.Plain.{only_entries, own_and_entries}
@@ -19,10 +18,6 @@ use Rattle.writer.proofs.Rules.{codes_digits, codes_range, ending_digits, ending
 -- ---- the digits beside a content: those that it uses, and the others
 others : (ds : List ℕ) (used : ℕ) → take (length ds - used) (drop used ds) ≡ drop used ds
 others ds used = take_all (length ds - used) (drop used ds) (omega (arith, length-drop used ds))
-
-pub digits_kept : (c : Content) (ds : List ℕ) (used : ℕ) (r : Bool) → length ds ≡ 35 → used ≡ digits_before c + digits_after c → r ≡ inside 0 0 (take (35 - used) (drop used ds)) → r ≡ not (digits_lost c ds)
-digits_kept c ds used r d e f =
-    f ∙ ap (λ (n : ℕ). inside 0 0 (take (n - used) (drop used ds))) (sym d) ∙ ap (inside 0 0) (others ds used ∙ ap (λ (n : ℕ). drop n ds) e) ∙ sym (not-not (inside 0 0 (drop (digits_before c + digits_after c) ds)))
 
 in_parts : (ds : List ℕ) (used : ℕ) → inside 0 9 ds ≡ (inside 0 9 (take used ds) && inside 0 9 (take (length ds - used) (drop used ds)))
 in_parts ds used =

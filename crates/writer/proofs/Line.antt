@@ -59,9 +59,6 @@ pub record Going (out₀ : List ℕ) (p : ℕ) (t : Line) (xs : List ℕ) (i : �
   pub kept : length out ≡ length out₀
   pub rest : sets (bits out₀) p (spread t.width (value_of t (drop i xs))) ≡ sets (bits out) q (spread t.width (drop j (value_of t (drop i xs))))
 
-pub going_first : (out : List ℕ) (p : ℕ) (t : Line) (xs : List ℕ) (i : ℕ) → Going out p t xs i out p 0
-going_first out p t xs i = record { within = omega arith; place = omega arith; kept = refl; rest = refl }
-
 pub going_turn : (out₀ : List ℕ) (p : ℕ) (t : Line) (xs : List ℕ) (i : ℕ) (out last : List ℕ) (q j x : ℕ) → sound t ≡ true → p < 50000 → i + own t ≤ length xs → Going out₀ p t xs i out q j → j < t.count
     → x ≡ cond t.given (get_or xs (i + j) 0) t.lo → bits last ≡ sets (bits out) q (field_bits q t.width x) → Going out₀ p t xs i last (q + t.width) (j + 1)
 going_turn out₀ p t xs i out last q j x s hp h g k ex e =

@@ -1,5 +1,5 @@
 -- The loop that puts lines: how it starts, goes on and ends. Assumes nothing.
-use mathlib.Core.Path.{◌≡◌, refl, sym, ap, ap₂, ◌∙◌}
+use mathlib.Core.Path.{◌≡◌, sym, ap, ap₂, ◌∙◌}
 use mathlib.Core.Bool.{true, cond}
 use mathlib.Core.List.{List, ◌++◌}
 use Prim.Native.Nat.{ℕ, ◌+◌, ◌*◌, ◌<◌, ◌≤◌}
@@ -17,11 +17,9 @@ use Rattle.format.specs.declared.Line.{Line}
 use Rattle.format.specs.Format.{own, size, need, encode, fill, sound}
 use Rattle.format.specs.Reach.{field_bits}
 use Rattle.format.proofs.Leaves.{reached, same_long}
-use Rattle.packet.specs.declared.Lines.{Lines}
-use Rattle.packet.specs.InCode.{lines_in}
 use Rattle.packet.specs.Columns.{single}
 use Rattle.packet.proofs.Loops.{lines_cons}
-use Rattle.writer.specs.Puts.{After, Puttable}
+use Rattle.writer.specs.Puts.{After}
 use Rattle.writer.proofs.Line.{bits_one}
 use Rattle.format.proofs.Sound.{sound_is}
 
@@ -33,10 +31,6 @@ pub record Going (out₀ : List ℕ) (p : ℕ) (xs : List ℕ) (m : ℕ) (T : Li
   pub room : i + need (drop j T) ≤ length xs
   pub sizes : p + size T ≡ q + size (drop j T)
   pub rest : sets (bits out₀) p (encode T (fill T xs)) ≡ sets (bits out) q (encode (drop j T) (fill (drop j T) (drop i xs)))
-
-pub going_first : (out : List ℕ) (p : ℕ) (xs : List ℕ) (ts : Lines) → Puttable ts xs p → Going out p xs ts.m (lines_in ts) out p 0 0
-going_first out p xs ts h =
-    record { within = omega arith; place = omega arith; kept = refl; room = let r = h.numbers in omega arith; sizes = refl; rest = refl }
 
 -- line j
 module _ (T : List Line) (j : ℕ) (d t : Line) (h : j < length T) (e : t ≡ get_or T j d) where

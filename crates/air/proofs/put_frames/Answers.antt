@@ -9,18 +9,6 @@ use Rattle.air.proofs.put_frames.Goals as goal
 pub loop-number-init : goal.loop-number-init
 loop-number-init c = going_first _ _ _ _ _ c.total_for-total.ensures
 
-pub overflow_mul-from : goal.overflow_mul-from
-overflow_mul-from c = let f = few_total c.args.packet.now _ c.requires.short c.total_for-total.ensures in
-    omega (arith, f.1, c.loop-number-test.true)
-
-pub slice_bounds-put_frame-count : goal.slice_bounds-put_frame-count
-slice_bounds-put_frame-count c = let f = few_total c.args.packet.now _ c.requires.short c.total_for-total.ensures in
-    omega (arith, f.0, c.requires.room, c.loop-number.invariant.kept, c.loop-number-test.true)
-
-pub slice_bounds-put_frame-start : goal.slice_bounds-put_frame-start
-slice_bounds-put_frame-start c = let f = few_total c.args.packet.now _ c.requires.short c.total_for-total.ensures in
-    omega (arith, f.0, c.requires.room, c.loop-number.invariant.kept, c.loop-number-test.true)
-
 pub put_frame-requires : goal.put_frame-requires
 put_frame-requires c = let number = c.loop-number.number in
     let out = c.loop-number.out in
@@ -37,9 +25,6 @@ loop-number-preserved c = let e = c.total_for-total.ensures in
     let t = f.0 in
     let h = c.loop-number-test.true in
     going_turn _ _ _ _ _ c.loop-number.out c.put_frame.new.out (record { 0 = c.loop-number.number }) c.loop-number.invariant h e (omega arith) c.put_frame.ensures
-
-pub shape_of-out : goal.shape_of-out
-shape_of-out c = c.loop-number.invariant.kept
 
 pub returns : goal.returns
 returns c = going_last _ _ _ _ _ _ _ c.loop-number.invariant (omega arith)

@@ -3,39 +3,19 @@ use mathlib.Core.List.{[], ◌∷◌, ◌++◌}
 use Rattle.print.specs.Lines.{decimal_of}
 use lib.ListN.{length-append}
 use Rattle.print.proofs.RecordLine.{part_keeps}
-use mathlib.Core.Path.{ap, ◌∙◌}
 use native.Mathlib.Omega.{arith}
-use lib.ListN.{length-drop, length}
-use lib.Seq.{length-sets}
+use lib.ListN.{length-drop}
 use Rattle.laws.proofs.Parts.{part_is}
-use Rattle.print.specs.Records.{spaced}
 use Rattle.print.proofs.RecordLine.{spaced_length, space_behind}
 use Rattle.print.proofs.records.put_spaced.Goals as goal
-
-pub slice_bounds-put_answer-count : goal.slice_bounds-put_answer-count
-slice_bounds-put_answer-count c = omega (arith, spaced_length c.args.n)
-
-pub slice_bounds-put_answer-start : goal.slice_bounds-put_answer-start
-slice_bounds-put_answer-start c = omega (arith, spaced_length c.args.n)
 
 pub put_answer-requires : goal.put_answer-requires
 put_answer-requires c = let a = c.args in
     rw (part_is a.out.now a.at) (omega (arith, length-drop a.at a.out.now, spaced_length a.n))
 
-pub overflow_add-end : goal.overflow_add-end
-overflow_add-end c = omega (arith, spaced_length c.args.n, c.decimal_length-digits.ensures.0)
-
 pub bounds-out-end : goal.bounds-out-end
 bounds-out-end c = let a = c.args in
     omega (arith, spaced_length a.n, c.decimal_length-digits.ensures.0, part_keeps a.out.now (decimal_of a.n ++ (10 ∷ [])) c.put_answer.new.out a.at (omega (arith, spaced_length a.n, length-append (decimal_of a.n) (10 ∷ []))) c.put_answer.ensures)
-
-pub overflow_add-result : goal.overflow_add-result
-overflow_add-result c = omega (arith, spaced_length c.args.n, c.decimal_length-digits.ensures.0)
-
-pub shape_of-out : goal.shape_of-out
-shape_of-out c = let a = c.args in
-    ap length (space_behind a.n a.at c.decimal_length-digits.result a.out.now c.put_answer.new.out c.requires c.decimal_length-digits.ensures.0 c.put_answer.ensures)
-    ∙ length-sets a.out.now a.at (spaced a.n)
 
 pub returns : goal.returns
 returns c = let a = c.args in

@@ -1,10 +1,6 @@
-use mathlib.Core.Path.{refl}
 use native.Mathlib.Omega.{arith}
 use Rattle.tell.proofs.Stepping.{step_at, parts_fits, parts_over, parts_done}
 use Rattle.tell.proofs.characters.count.Goals as goal
-
-pub loop-i-init : goal.loop-i-init
-loop-i-init c = (omega arith, omega arith, refl, omega arith, omega arith)
 
 pub overflow_add-i : goal.overflow_add-i
 overflow_add-i c = let v = c.loop-i.invariant in
@@ -27,19 +23,10 @@ overflow_sub-left-else-w-left c = let v = c.loop-i.invariant in
     let s = step_at _ c.loop-i.i _ (omega (arith, v.2)) c.width-w.ensures in
     omega (arith, s.most, c.requires)
 
-pub overflow_add-parts : goal.overflow_add-parts
-overflow_add-parts c = let v = c.loop-i.invariant in
-    omega (arith, v.3)
-
 pub overflow_add-i-else-w-left : goal.overflow_add-i-else-w-left
 overflow_add-i-else-w-left c = let v = c.loop-i.invariant in
     let s = step_at _ c.loop-i.i _ (omega (arith, v.2)) c.width-w.ensures in
     omega (arith, s.within)
-
-pub loop-i-smaller : goal.loop-i-smaller
-loop-i-smaller c = let v = c.loop-i.invariant in
-    let s = step_at _ c.loop-i.i _ (omega (arith, v.2)) c.width-w.ensures in
-    omega (arith, s.within, s.some, v.2)
 
 pub loop-i-preserved : goal.loop-i-preserved
 loop-i-preserved c = let v = c.loop-i.invariant in

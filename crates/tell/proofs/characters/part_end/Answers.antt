@@ -1,10 +1,6 @@
-use mathlib.Core.Path.{refl}
 use native.Mathlib.Omega.{arith}
 use Rattle.tell.proofs.Stepping.{step_at, first_fits, first_over, first_done}
 use Rattle.tell.proofs.characters.part_end.Goals as goal
-
-pub loop-i-init : goal.loop-i-init
-loop-i-init c = (refl, c.requires, refl)
 
 pub returns-then-left-w : goal.returns-then-left-w
 returns-then-left-w c = let v = c.loop-i.invariant in

@@ -8,12 +8,6 @@ use Rattle.laws.specs.Bits.{bits, spread}
 use Rattle.writer.proofs.Beside.{low_put}
 use Rattle.writer.proofs.columns.put_odd.Goals as goal
 
-pub overflow_mul-out : goal.overflow_mul-out
-overflow_mul-out c = omega (arith, c.slice_known-1.given (c.args.p / 8))
-
-pub overflow_add-out : goal.overflow_add-out
-overflow_add-out c = omega (arith, c.slice_known-1.given (c.args.p / 8))
-
 pub returns-then-a-eq1 : goal.returns-then-a-eq1
 returns-then-a-eq1 c = let a = c.args in
     let e : 1 ≡ a.a = sym c.if-a-eq1.true in

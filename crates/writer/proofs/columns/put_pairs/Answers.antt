@@ -1,7 +1,6 @@
 -- `writer::columns::put_pairs`: what its goals need. Assumes nothing.
 use mathlib.Core.Path.{refl}
 use Prim.Native.Nat.{◌+◌, ◌*◌}
-use native.Mathlib.Nat.{add-zero}
 use native.Mathlib.Omega.{arith}
 use lib.ListN.{get_or}
 use lib.Seq.{sets}
@@ -9,9 +8,6 @@ use Rattle.laws.specs.Bits.{bits, spread}
 use Rattle.format.proofs.Leaves.{spread_done}
 use Rattle.writer.proofs.Beside.{piece, piece_long, pairs_turn}
 use Rattle.writer.proofs.columns.put_pairs.Goals as goal
-
-pub loop-j-init : goal.loop-j-init
-loop-j-init c = rw (add-zero c.args.k)
 
 pub loop-j-preserved : goal.loop-j-preserved
 loop-j-preserved c = let a = c.args in

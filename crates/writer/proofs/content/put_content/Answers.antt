@@ -10,11 +10,6 @@ use Rattle.writer.specs.Parts.{front_bits, front_size}
 use Rattle.writer.proofs.Whole.{content_put, bodied, front_small, body_small}
 use Rattle.writer.proofs.content.put_content.Goals as goal
 
-pub put_front-q-requires : goal.put_front-q-requires
-put_front-q-requires c = let e = c.count_for-k.ensures in
-    let r : c.row_of-s.result ≡ row_at (kind_for c.args.c) = c.row_of-s.ensures ∙ ap (λ (l : Laid). row_at l.kind) c.lay-l.ensures in
-    (record { laid = c.lay-l.ensures; row = r }, omega (arith, e, c.requires.0.few), omega (arith, c.requires.1), c.requires.2)
-
 pub put_body-e-requires : goal.put_body-e-requires
 put_body-e-requires c = let r : c.row_of-s.result ≡ row_at (kind_for c.args.c) = c.row_of-s.ensures ∙ ap (λ (l : Laid). row_at l.kind) c.lay-l.ensures in
     (r, c.count_for-k.ensures, c.requires.0, omega (arith, c.put_front-q.ensures.place, front_small c.args.c c.count_for-k.result, c.requires.1))

@@ -17,12 +17,6 @@ use Rattle.writer.proofs.Shapes.{then_put}
 use Rattle.writer.proofs.Parted.{told, first_size, first_put}
 use Rattle.writer.proofs.content.put_front.Goals as goal
 
-pub put_own-q-requires : goal.put_own-q-requires
-put_own-q-requires c = (c.requires.0, c.requires.2)
-
-pub overflow_sub-q : goal.overflow_sub-q
-overflow_sub-q c = omega (arith, c.put_own-q.ensures.place)
-
 pub overflow_sub-s : goal.overflow_sub-s
 overflow_sub-s c = let x = c.args.c in
     omega (arith, c.put_own-q.ensures.place, first_size x, (told (kind_for x) c.requires.0.row).first_bits)

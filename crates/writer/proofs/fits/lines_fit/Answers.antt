@@ -1,5 +1,5 @@
 -- `writer::fits::lines_fit`: what its goals need. Assumes nothing.
-use mathlib.Core.Path.{◌≡◌, refl, sym, ap, ◌∙◌}
+use mathlib.Core.Path.{◌≡◌, sym, ap, ◌∙◌}
 use Prim.Native.Nat.{ℕ, ◌+◌}
 use native.Mathlib.Omega.{arith}
 use lib.ListN.{drop}
@@ -11,9 +11,6 @@ use Rattle.writer.proofs.Inside.{lines_turn, lines_done, one_fits}
 use mathlib.Core.Bool.{cond}
 use borrow.Author.Rules.{rules}
 use Rattle.writer.proofs.fits.lines_fit.Goals as goal
-
-pub loop-j-init : goal.loop-j-init
-loop-j-init c = (omega arith, refl)
 
 pub overflow_add-ts : goal.overflow_add-ts
 overflow_add-ts c = omega (arith, c.requires.few.1, laws.every_few)

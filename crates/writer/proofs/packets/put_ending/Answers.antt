@@ -3,37 +3,12 @@ use mathlib.Core.Path.{◌≡◌, ap, ap₂, ◌∙◌}
 use mathlib.Core.List.{List}
 use Prim.Native.Nat.{ℕ, ◌+◌, ◌*◌, ◌/◌}
 use native.Mathlib.Omega.{arith}
-use lib.ListN.{length, take, drop}
+use lib.ListN.{length}
 use lib.Seq.{sets, take_all}
 use Rattle.laws.specs.Bits.{bits, bits_of, spread}
-use Rattle.format.proofs.Leaves.{same_long}
 use Rattle.writer.proofs.Whole.{ending_put}
 use borrow.Author.Rules.{rules}
 use Rattle.writer.proofs.packets.put_ending.Goals as goal
-
-pub put_time-requires : goal.put_time-requires
-put_time-requires c = omega (arith, c.requires.0, c.requires.1)
-
-pub overflow_add-k : goal.overflow_add-k
-overflow_add-k c = omega (arith, c.requires.2)
-
-pub put_pairs-requires : goal.put_pairs-requires
-put_pairs-requires c = let a = c.args in
-    let h = c.requires in
-    let lc : length a.certificate ≡ 12 = search rules in
-    let u = same_long c.put_time.new.out a.out.now (a.p / 8 * 8) (bits_of 32 a.time) c.put_time.ensures in
-    (omega (arith, h.0, h.1, u), omega (arith, lc))
-
-pub overflow_add-k-2 : goal.overflow_add-k-2
-overflow_add-k-2 c = omega (arith, c.requires.2)
-
-pub put_bytes-requires : goal.put_bytes-requires
-put_bytes-requires c = let a = c.args in
-    let h = c.requires in
-    let ls : length a.signature ≡ 64 = search rules in
-    let u = same_long c.put_time.new.out a.out.now (a.p / 8 * 8) (bits_of 32 a.time) c.put_time.ensures in
-    let v = same_long c.put_pairs.new.out c.put_time.new.out ((a.p / 8 + 4) * 8) (spread 4 (take (2 * 6) (drop 0 a.certificate))) c.put_pairs.ensures in
-    omega (arith, h.0, h.1, u, v, ls)
 
 pub returns : goal.returns
 returns c = let a = c.args in

@@ -7,9 +7,6 @@ use Rattle.writer.proofs.Taken.{taken_is}
 use borrow.Author.Rules.{rules}
 use Rattle.writer.proofs.refusals.content_taken.Goals as goal
 
-pub numbers_fine-requires : goal.numbers_fine-requires
-numbers_fine-requires c = c.requires.1
-
 pub returns-else-nothing_lost : goal.returns-else-nothing_lost
 returns-else-nothing_lost c = let x = c.args in
     let d : length x.f.digits ≡ 35 = search (rules, c.well_formed) in

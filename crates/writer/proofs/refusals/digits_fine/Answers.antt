@@ -1,7 +1,6 @@
 -- `writer::refusals::digits_fine`: what its goals need. Assumes nothing.
-use mathlib.Core.Path.{◌≡◌, refl, sym, ◌∙◌}
+use mathlib.Core.Path.{◌≡◌, sym, ◌∙◌}
 use mathlib.Core.Bool.{◌&&◌}
-use mathlib.Core.Logic.{inl}
 use Prim.Native.Nat.{◌-◌}
 use lib.ListN.{length, take, drop}
 use borrow.Author.Rules.{rules}
@@ -11,9 +10,6 @@ use Rattle.writer.proofs.Digits.{asked_in_parts}
 use Rattle.writer.proofs.Taken.{then_both, else_none}
 use Rattle.writer.proofs.refusals.digits_fine.Goals as goal
 use Rattle.writer.proofs.refusals.digits_fine.Goals.{then-all_most, else-all_most, then-all_most-2, else-all_most-2, then-all_most-3, else-all_most-3}
-
-pub body_fine-requires : goal.body_fine-requires
-body_fine-requires c = (inl refl, c.requires.1)
 
 pub returns-then-all_most-4 : goal.returns-then-all_most-4
 returns-then-all_most-4 c = let x = c.args in

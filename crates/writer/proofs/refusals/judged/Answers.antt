@@ -9,8 +9,5 @@ returns-then-not_written c = c.refused.ensures ∙ says_23 _ _ _ _ (sym c.not_wr
 pub returns-then-counts_bad : goal.returns-then-counts_bad
 returns-then-counts_bad c = c.refused-then-counts_bad.ensures ∙ says_26 _ _ _ _ (sym c.not_written.ensures ∙ c.if-not_written.false) (sym c.counts_bad.ensures ∙ c.if-counts_bad.true)
 
-pub rest_answer-requires : goal.rest_answer-requires
-rest_answer-requires c = sym c.counts_bad.ensures ∙ c.if-counts_bad.false
-
 pub returns : goal.returns
 returns c = c.rest_answer.ensures ∙ then_rest _ _ _ _ (sym c.not_written.ensures ∙ c.if-not_written.false) (sym c.counts_bad.ensures ∙ c.if-counts_bad.false)

@@ -3,14 +3,11 @@ use mathlib.Core.Path.{sym, ap, ◌∙◌}
 use Prim.Native.Nat.{ℕ, ◌+◌, ◌*◌}
 use native.Mathlib.Omega.{arith}
 use lib.Dec.{ltb}
-use borrow.Author.Tests.{lt-ltb, le-ltb}
-use Rattle.laws.proofs.Cases.{if_yes, if_no}
+use borrow.Author.Tests.{le-ltb}
+use Rattle.laws.proofs.Cases.{if_no}
 use Rattle.packet.specs.Reading.{sizes_of}
 use Rattle.writer.proofs.Sizes.{bytes_for, bits_most}
 use Rattle.writer.proofs.refusals.size_of.Goals as goal
-
-pub returns-then-k-gt1000 : goal.returns-then-k-gt1000
-returns-then-k-gt1000 c = sym (if_yes _ _ (ap (ltb 1000) (sym c.count_for-k.ensures) ∙ lt-ltb _ _ c.if-k-gt1000.true))
 
 pub overflow_mul-result-2 : goal.overflow_mul-result-2
 overflow_mul-result-2 c = omega (arith, bits_most c.args.f.content _ (c.sizes_of-z.ensures ∙ ap sizes_of c.kind_for.ensures) _ _ c.count_for-k.ensures c.if-k-gt1000.false)
