@@ -23,10 +23,7 @@ pub fn is_part(packet: &[u8]) -> bool
 fn refused(answer: u8) -> Joined
     ensures { result ≡ record { answer = answer; length = 0 } }
 {
-    Joined {
-        answer: answer,
-        length: 0,
-    }
+    Joined { answer, length: 0 }
 }
 
 // The text of the packets' parts from the output's first byte on, and its length: 33 or 10 where it is refused, and then nothing is written.
@@ -35,20 +32,11 @@ pub fn join(packets: &[u8], out: &mut [u8]) -> Joined
     ensures output { out.new ≡ join_output packets.now out.old }
 {
     let n = lent::count(packets);
-    if n == 0 {
-        return refused(33);
-    }
-    if n > 9 {
-        return refused(33);
-    }
-    if !lent::all_parts(packets) {
+    if !(1..=9).contains(&n) || !lent::all_parts(packets) {
         return refused(33);
     }
     let at = found::places(packets, n);
-    if !found::all_found(packets, at, n) {
-        return refused(33);
-    }
-    if !found::in_step(packets, at, n) {
+    if !found::all_found(packets, at, n) || !found::in_step(packets, at, n) {
         return refused(33);
     }
     let m = found::text_length(packets, at, n);
