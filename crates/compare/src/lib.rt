@@ -27,7 +27,12 @@ fn first_byte(a: &[u8], b: &[u8]) -> Option<usize>
     requires { (length a.now ≡ 256) × (length b.now ≡ 256) }
     ensures { let at = first_byte a.now b.now in MatchOption result (at ≡ 256) (λ i. (i ≡ at) × (i < 256)) }
 {
-    a.iter().zip(b).position(|(x, y)| x != y)
+    for i in 0..256 {
+        if a[i] != b[i] {
+            return Some(i);
+        }
+    }
+    None
 }
 
 // Writes words from a byte on; the byte behind them.
@@ -130,6 +135,7 @@ fn put_below(left: &[u8], right: &[u8], n: usize, out: &mut [u8]) -> Listing
 }
 
 // How many records the longer shelf has.
+#[tactic(auto, unfolding(crate::specs::Differences::longer))]
 fn longer(left: &[u8], right: &[u8]) -> usize
     ensures { result ≡ longer left.now right.now }
 {
