@@ -60,7 +60,8 @@ fn is_after(d: [u8; 35], first: [u8; 35], k: usize) -> bool
     requires { k < 9 }
     ensures { result ≡ is_after d first k }
 {
-    d[..31] == first[..31] && story::last_four(&d) as usize == story::last_four(&first) as usize + k
+    octets::same_bytes(&d[0..31], &first[0..31])
+        && story::last_four(&d) as usize == story::last_four(&first) as usize + k
 }
 
 // Whether the message numbers are in step with that of part 1.

@@ -32,11 +32,20 @@ pub fn join(packets: &[u8], out: &mut [u8]) -> Joined
     ensures output { out.new ≡ join_output packets.now out.old }
 {
     let n = lent::count(packets);
-    if !(1..=9).contains(&n) || !lent::all_parts(packets) {
+    if n == 0 {
+        return refused(33);
+    }
+    if n > 9 {
+        return refused(33);
+    }
+    if !lent::all_parts(packets) {
         return refused(33);
     }
     let at = found::places(packets, n);
-    if !found::all_found(packets, at, n) || !found::in_step(packets, at, n) {
+    if !found::all_found(packets, at, n) {
+        return refused(33);
+    }
+    if !found::in_step(packets, at, n) {
         return refused(33);
     }
     let m = found::text_length(packets, at, n);
