@@ -26,10 +26,7 @@ fn total_for(size: usize) -> Total
 pub fn right_size(packet: &[u8]) -> bool
     ensures { result ≡ sized packet.now }
 {
-    if packet.len() < 2 {
-        return false;
-    }
-    if packet.len() > 250 {
+    if packet.len() < 2 || packet.len() > 250 {
         return false;
     }
     packet.len() == size::packet_size(packet)
@@ -42,15 +39,14 @@ fn carried_byte(packet: &[u8], check: u16, i: usize) -> u8
 {
     let p = packet.len();
     if i < p {
-        return packet[i];
+        packet[i]
+    } else if i == p {
+        (check / 256) as u8
+    } else if i == p + 1 {
+        (check % 256) as u8
+    } else {
+        0xFF
     }
-    if i == p {
-        return (check / 256) as u8;
-    }
-    if i == p + 1 {
-        return (check % 256) as u8;
-    }
-    0xFF
 }
 
 // Two of those bytes as an information word.
@@ -58,9 +54,10 @@ fn carried_word(packet: &[u8], check: u16, i: usize) -> u16
     requires { (check ≡ crc16 packet.now) × (length packet.now ≤ 250) × (i < 1000) }
     ensures { WordOf (carried packet.now i) (carried packet.now (i + 1)) result }
 {
-    let high = carried_byte(packet, check, i);
-    let low = carried_byte(packet, check, i + 1);
-    (high as u16) * 256 + low as u16
+    u16::from_be_bytes([
+        carried_byte(packet, check, i),
+        carried_byte(packet, check, i + 1),
+    ])
 }
 
 // A block's 26 bits.
@@ -92,6 +89,7 @@ fn put_blocks(out: &mut [u8], a: u32, b: u32, c: u32, d: u32)
 }
 
 // Block 1's word: level, version, total and the number's high bits.
+#[tactic(auto, unfolding(crate::specs::Packed::first_word))]
 fn first_word(heading: Heading) -> u16
     requires { Fits heading }
     ensures { result ≡ first_word heading }
@@ -100,7 +98,7 @@ fn first_word(heading: Heading) -> u16
     let number = heading.number.0;
     let high = heading.level * 32 + heading.version;
     let low = total * 4 + number / 16;
-    (high as u16) * 256 + low as u16
+    u16::from_be_bytes([high, low])
 }
 
 // Writes the frame of a heading to the part of the output that is lent for it: the heading's words, then two of what the packet carries.
@@ -124,17 +122,15 @@ fn put_frames(packet: &[u8], level: u8, version: u8, out: &mut [u8])
 {
     let total = total_for(packet.len());
     let check = crc::packet_check(packet);
-    let mut number = Number(0);
-    while number.0 < total.0 {
+    for number in 0..total.0 {
         let heading = Heading {
-            level: level,
-            version: version,
-            total: total,
-            number: number,
+            level,
+            version,
+            total,
+            number: Number(number),
         };
-        let from = 13 * number.0 as usize;
+        let from = 13 * number as usize;
         put_frame(&mut out[from..], packet, check, heading);
-        number = Number(number.0 + 1);
     }
 }
 

@@ -61,7 +61,7 @@ fn all_digits(rt: &impl Print, b: &[u8]) -> io::Result<()> {
 // What was written at the start of the memory lent, and whether the rest is as it was.
 fn memory(rt: &impl Print, w: Written, lent: &[u8]) -> io::Result<()> {
     say::one(rt, b"encode", w.answer as u64)?;
-    say::hex(rt, octets::part(lent, 0, input::least(w.length, 1600)))?;
+    say::hex(rt, octets::part(lent, 0, w.length.min(1600)))?;
     say::hex(
         rt,
         octets::part(octets::part(lent, 0, w.length), 1600, 1600),
@@ -148,7 +148,7 @@ fn written(
     n: usize,
     lent: &mut [u8],
 ) -> io::Result<()> {
-    let e = input::least(n, lent.len());
+    let e = n.min(lent.len());
     let w = sister::write(c, address, codes, &mut lent[0..e]);
     memory(rt, w, lent)
 }

@@ -1,7 +1,7 @@
 // D, a state's two numbers, how many bytes the symbol's numbers have (two bytes), the numbers, at most 40, of eight bytes each: the answer, the
 // verdict, and the patterns of its product and of the state behind it.
 use crate::{input, say};
-use samples::{Pair, Verdict};
+use samples::{Decided, Pair, Verdict};
 use std::io;
 
 // A space and a number's pattern in hex; a word for what has none.
@@ -33,12 +33,18 @@ fn verdict(rt: &impl Print, v: Verdict) -> io::Result<()> {
 // The numbers of a record, zeros behind them.
 fn numbers(b: &[u8]) -> [f64; 40] {
     let mut all = [0.0f64; 40];
-    let mut k: usize = 0;
-    while k < 40 {
+    for k in 0..40 {
         all[k] = samples::number(b, 19 + 8 * k);
-        k += 1;
     }
     all
+}
+
+// What is printed beside a refusal: the state as it was, and no verdict.
+fn undecided(state: Pair) -> Decided {
+    Decided {
+        verdict: Verdict::Undecided(0.0),
+        state,
+    }
 }
 
 // A whole record.
@@ -47,14 +53,14 @@ pub(crate) fn record(rt: &impl Print, b: &[u8]) -> io::Result<()> {
         inphase: samples::number(b, 1),
         quadrature: samples::number(b, 9),
     };
-    let n = input::least(input::two(b, 17) as usize / 8, 40);
-    let all = numbers(b);
-    let d = samples::decide(state, &all[0..n]);
-    say::one(rt, b"decide", d.answer as u64)?;
-    let v = d.verdict;
-    verdict(rt, v)?;
-    let p = d.state;
-    pattern(rt, p.inphase)?;
-    pattern(rt, p.quadrature)?;
+    let n = (input::two(b, 17) as usize / 8).min(40);
+    let (answer, decided) = match samples::decide(state, &numbers(b)[..n]) {
+        Ok(decided) => (0, decided),
+        Err(refusal) => (refusal.number(), undecided(state)),
+    };
+    say::one(rt, b"decide", answer.into())?;
+    verdict(rt, decided.verdict)?;
+    pattern(rt, decided.state.inphase)?;
+    pattern(rt, decided.state.quadrature)?;
     say::text(rt, b"\n")
 }

@@ -1,16 +1,10 @@
 // Parts of the input. What is asked for past its end is 0, or nothing.
 ghost use Rattle.std.specs.Prelude.{◌≡◌, ◌≤◌, length};
 
-pub(crate) fn least(n: usize, m: usize) -> usize
-    ensures { (result ≤ n) × (result ≤ m) }
-{
-    if n < m { n } else { m }
-}
-
 // The length of a record of two parts; 0 where there is less.
 pub(crate) fn whole(b: &[u8], head: usize, rest: usize) -> usize
     requires { (head ≤ 1000) × (rest ≤ 199000) }
-    ensures { result ≤ 200000 }
+    ensures { result ≤ length b.now }
 {
     let n = head + rest;
     if n <= b.len() { n } else { 0 }
@@ -41,10 +35,7 @@ pub(crate) fn eight(b: &[u8], i: usize) -> u64
 pub(crate) fn fill(b: &[u8], out: &mut [u8])
     ensures { length out.new ≡ length out.old }
 {
-    let n = out.len();
-    let mut i: usize = 0;
-    while i < n {
-        out[i] = octets::byte(b, i);
-        i += 1;
-    }
+    let n = b.len().min(out.len());
+    out[..n].copy_from_slice(&b[..n]);
+    out[n..].fill(0);
 }

@@ -39,8 +39,8 @@ fn received(
     memory: &mut [u8],
     counts: &mut [u8],
 ) -> io::Result<Receiver> {
-    let e = input::least(n, memory.len());
-    let f = input::least(k, counts.len());
+    let e = n.min(memory.len());
+    let f = k.min(counts.len());
     let got = receiver::receive(r, delivery, &mut memory[0..e], &mut counts[0..f]);
     say::one(rt, b"receive", got.answer as u64)?;
     say::number(rt, got.frames as u64)?;
@@ -72,7 +72,7 @@ fn copied(
     n: usize,
     memory: &mut [u8],
 ) -> io::Result<()> {
-    let e = input::least(n, memory.len());
+    let e = n.min(memory.len());
     let a = collector::copy(c, level, version, &mut memory[0..e]);
     say::one(rt, b"copy", a.answer as u64)?;
     say::memory(rt, memory, a.length)

@@ -18,13 +18,13 @@ mod shelving;
 mod telling;
 mod writing;
 
-ghost use Rattle.std.specs.Prelude.{◌≤◌};
+ghost use Rattle.std.specs.Prelude.{◌≤◌, length};
 
 use std::io;
 
 // How long the record is that begins a list; 0 where none does, or only a part of one.
 fn length_of(b: &[u8]) -> usize
-    ensures { result ≤ 200000 }
+    ensures { result ≤ length b.now }
 {
     match octets::byte(b, 0) {
         b'P' => input::whole(b, 3, input::two(b, 1) as usize),
@@ -39,7 +39,7 @@ fn length_of(b: &[u8]) -> usize
         b'O' => input::whole(b, 3, input::two(b, 1) as usize),
         b'F' => input::whole(b, 3, 0),
         b'C' => input::whole(b, 5, 0),
-        b'N' => 1,
+        b'N' => input::whole(b, 1, 0),
         b'T' => input::whole(
             b,
             125,
@@ -96,19 +96,18 @@ fn asked(rt: &impl Print, b: &[u8]) -> io::Result<()> {
 fn main(rt: HostRuntime) -> io::Result<()> {
     let mut records = [0u8; 65536];
     let n = intake::fill(&mut rt.reader(), &mut records)?;
-    let all = octets::part(&records, 0, n);
-    let end = input::least(all.len(), 65536);
+    let mut left = octets::part(&records, 0, n);
     let mut kept = keeping::begin();
-    let mut i: usize = 0;
-    while i < end {
-        let length = length_of(octets::part(all, i, 65536));
+    while !left.is_empty() {
+        let length = length_of(left);
         if length == 0 {
             return say::text(&rt, b"no whole record\n");
         }
-        asked(&rt, octets::part(all, i, length))?;
-        kept = keeping::after(&rt, kept, octets::part(all, i, length))?;
+        let (record, behind) = left.split_at(length);
+        asked(&rt, record)?;
+        kept = keeping::after(&rt, kept, record)?;
         say::text(&rt, b"\n")?;
-        i += length;
+        left = behind;
     }
     Ok(())
 }

@@ -1,5 +1,4 @@
 // Lines of text.
-use crate::input;
 use std::io;
 
 pub(crate) fn text(rt: &impl Print, b: &[u8]) -> io::Result<()> {
@@ -26,22 +25,20 @@ pub(crate) fn one(rt: &impl Print, name: &[u8], n: u64) -> io::Result<()> {
 
 // A character for a number below 16.
 fn glyph(d: u8) -> u8 {
-    if d < 10 {
-        return 48 + d;
+    match d {
+        0..=9 => b'0' + d,
+        10..=15 => b'A' + (d - 10),
+        _ => b'?',
     }
-    if d < 16 { 55 + d } else { b'?' }
 }
 
 // A space and two characters a byte; a dash where there is none.
 pub(crate) fn hex(rt: &impl Print, b: &[u8]) -> io::Result<()> {
     let mut line = [0u8; 4600];
-    let n = input::least(b.len(), 2300);
-    let mut i: usize = 0;
-    while i < n {
-        let x = b[i];
-        line[2 * i] = glyph(x / 16);
-        line[2 * i + 1] = glyph(x % 16);
-        i += 1;
+    let n = b.len().min(2300);
+    for (i, x) in b[..n].iter().enumerate() {
+        line[2 * i] = glyph(*x / 16);
+        line[2 * i + 1] = glyph(*x % 16);
     }
     spaced(rt, octets::part(&line, 0, 2 * n))
 }
@@ -49,17 +46,15 @@ pub(crate) fn hex(rt: &impl Print, b: &[u8]) -> io::Result<()> {
 // A space and a character for each digit; a dash where there is none.
 pub(crate) fn digits(rt: &impl Print, b: &[u8]) -> io::Result<()> {
     let mut line = [0u8; 1000];
-    let n = input::least(b.len(), 1000);
-    let mut i: usize = 0;
-    while i < n {
-        line[i] = glyph(b[i]);
-        i += 1;
+    let n = b.len().min(1000);
+    for (place, x) in line.iter_mut().zip(&b[..n]) {
+        *place = glyph(*x);
     }
     spaced(rt, octets::part(&line, 0, n))
 }
 
 fn spaced(rt: &impl Print, b: &[u8]) -> io::Result<()> {
-    if b.len() == 0 {
+    if b.is_empty() {
         return text(rt, b" -");
     }
     text(rt, b" ")?;
@@ -68,14 +63,7 @@ fn spaced(rt: &impl Print, b: &[u8]) -> io::Result<()> {
 
 // Whether every byte is x.
 pub(crate) fn all(b: &[u8], x: u8) -> bool {
-    let mut i: usize = 0;
-    while i < b.len() {
-        if b[i] != x {
-            return false;
-        }
-        i += 1;
-    }
-    true
+    b.iter().all(|y| *y == x)
 }
 
 // The bytes that were written at the start of lent memory, which was 0xEE throughout; then whether the rest still is.

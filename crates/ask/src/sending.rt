@@ -21,11 +21,14 @@ fn sent(
     n: usize,
     memory: &mut [u8],
 ) -> io::Result<()> {
-    let e = input::least(n, memory.len());
-    let a = air::on_air(packet, level, version, &mut memory[0..e]);
-    say::one(rt, b"air", a.answer as u64)?;
-    say::number(rt, a.frames as u64)?;
-    say::memory(rt, memory, bytes_of(a.frames))
+    let e = n.min(memory.len());
+    let (answer, frames) = match air::on_air(packet, level, version, &mut memory[..e]) {
+        Ok(frames) => (0, frames),
+        Err(refusal) => (refusal.number(), 0),
+    };
+    say::one(rt, b"air", answer.into())?;
+    say::number(rt, frames as u64)?;
+    say::memory(rt, memory, bytes_of(frames))
 }
 
 // A whole record.

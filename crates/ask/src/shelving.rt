@@ -15,23 +15,12 @@ fn space() -> [u8; 1048833]
     [0; 1048833]
 }
 
-// The place behind this one, and the first behind the last.
-fn next(at: usize, last: usize) -> usize {
-    if at < last { at + 1 } else { 0 }
-}
-
 // The bytes over and over until the output is full.
 fn repeat(b: &[u8], out: &mut [u8])
     ensures { length out.new ≡ length out.old }
 {
-    let n = out.len();
-    let last = if b.len() > 0 { b.len() - 1 } else { 0 };
-    let mut at: usize = 0;
-    let mut i: usize = 0;
-    while i < n {
-        out[i] = octets::byte(b, at);
-        at = next(at, last);
-        i += 1;
+    for (place, byte) in out.iter_mut().zip(b.iter().cycle()) {
+        *place = *byte;
     }
 }
 
@@ -43,7 +32,7 @@ fn added(
     summary: &[u8],
     memory: &mut [u8],
 ) -> io::Result<()> {
-    let e = input::least(summary.len(), memory.len());
+    let e = summary.len().min(memory.len());
     input::fill(summary, &mut memory[0..e]);
     say::one(
         rt,
@@ -58,7 +47,7 @@ pub(crate) fn add(rt: &impl Print, b: &[u8]) -> io::Result<()> {
     let n = input::two(b, 5) as usize;
     let m = input::two(b, 7) as usize;
     let mut space = space();
-    let e = input::least(input::four(b, 1) as usize, 1048833);
+    let e = (input::four(b, 1) as usize).min(1048833);
     repeat(octets::part(b, 11, n), &mut space);
     added(
         rt,
@@ -75,7 +64,7 @@ fn written(answer: u8, due: usize) -> usize {
 }
 
 fn summarized(rt: &impl Print, shelf: &[u8], n: usize, memory: &mut [u8]) -> io::Result<()> {
-    let e = input::least(n, memory.len());
+    let e = n.min(memory.len());
     let answer = shelf::summarize(shelf, &mut memory[0..e]);
     say::one(rt, b"summarize", answer as u64)?;
     say::memory(rt, memory, written(answer, 256))
@@ -84,7 +73,7 @@ fn summarized(rt: &impl Print, shelf: &[u8], n: usize, memory: &mut [u8]) -> io:
 // A whole record.
 pub(crate) fn summarize(rt: &impl Print, b: &[u8]) -> io::Result<()> {
     let mut space = space();
-    let e = input::least(input::four(b, 1) as usize, 1048833);
+    let e = (input::four(b, 1) as usize).min(1048833);
     repeat(octets::part(b, 9, 65536), &mut space);
     summarized(
         rt,
@@ -102,7 +91,7 @@ fn made(
     n: usize,
     memory: &mut [u8],
 ) -> io::Result<()> {
-    let e = input::least(n, memory.len());
+    let e = n.min(memory.len());
     let answer = shelf::make(level, version, packet, &mut memory[0..e]);
     say::one(rt, b"make", answer as u64)?;
     say::memory(rt, memory, written(answer, 256))
@@ -121,7 +110,7 @@ pub(crate) fn make(rt: &impl Print, b: &[u8]) -> io::Result<()> {
 }
 
 fn lined(rt: &impl Print, given: &[u8], n: usize, memory: &mut [u8]) -> io::Result<()> {
-    let e = input::least(n, memory.len());
+    let e = n.min(memory.len());
     let w = shelf::line(given, &mut memory[0..e]);
     say::one(rt, b"line", w.answer as u64)?;
     say::memory(rt, memory, w.length)

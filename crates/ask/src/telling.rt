@@ -32,7 +32,7 @@ fn told(
     n: usize,
     memory: &mut [u8],
 ) -> io::Result<()> {
-    let e = input::least(n, memory.len());
+    let e = n.min(memory.len());
     let t = tell::tell(s, codes, text, &mut memory[0..e]);
     say::one(rt, b"tell", t.answer as u64)?;
     say::number(rt, t.parts as u64)?;
@@ -53,7 +53,7 @@ pub(crate) fn tell(rt: &impl Print, b: &[u8]) -> io::Result<()> {
 }
 
 fn joined(rt: &impl Print, packets: &[u8], n: usize, memory: &mut [u8]) -> io::Result<()> {
-    let e = input::least(n, memory.len());
+    let e = n.min(memory.len());
     let j = join::join(packets, &mut memory[0..e]);
     say::one(rt, b"join", j.answer as u64)?;
     say::memory(rt, memory, j.length)

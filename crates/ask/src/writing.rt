@@ -71,7 +71,7 @@ fn written(
     n: usize,
     memory: &mut [u8],
 ) -> io::Result<()> {
-    let e = input::least(n, memory.len());
+    let e = n.min(memory.len());
     let w = writer::write(f, codes, body, &mut memory[0..e]);
     say::one(rt, b"write", w.answer as u64)?;
     say::memory(rt, memory, w.length)

@@ -10,7 +10,7 @@ use Rattle.samples.specs.Numbers.{number_at}
 use Rattle.samples.specs.Symbol.{decided}
 use Rattle.samples.specs.Coding.{bit_of}
 use Rattle.samples.specs.declared.Pair.{Pair}
-use Rattle.samples.specs.declared.Decided.{Decided}
+use Rattle.samples.specs.Symbol.{Decided}
 use Rattle.samples.specs.declared.Verdict.{Verdict}
 use Rattle.samples.specs.declared.Verdict.TheVariants.{Zero, One, Undecided}
 use Rattle.bits.specs.Packed.{numbers_from, symbols_from, decided_bits, taken_from}

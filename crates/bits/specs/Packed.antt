@@ -1,10 +1,12 @@
 -- What a piece of samples gives (paper 02, K12): the bits of its symbols in order, up to the first that is refused.
-use Rattle.std.specs.Prelude.{ℕ, zero, suc, ◌+◌, ◌*◌, ◌/◌, cond, List, [], ◌∷◌, length, ◌==◌, Float}
+use Rattle.std.specs.Prelude.{Option, Some, None, ℕ, zero, suc, ◌+◌, ◌*◌, ◌/◌, cond, List, [], ◌∷◌, length, ◌==◌, Float}
 use Rattle.samples.specs.Numbers.{number_at}
 use Rattle.samples.specs.Symbol.{decided}
 use Rattle.samples.specs.Coding.{bit_of}
 use Rattle.samples.specs.declared.Pair.{Pair}
-use Rattle.bits.specs.declared.Taken.{Taken}
+use Rattle.refusal.specs.declared.Refusal.{Refusal}
+use Rattle.refusal.specs.Refusal.{number_of}
+use Rattle.bits.specs.declared.Taken.{Taken as Given}
 
 -- n numbers of eight bytes each, from byte `at` on
 unfoldable pub numbers_from : List ℕ → ℕ → ℕ → List Float
@@ -24,6 +26,20 @@ symbols_in b = symbols_from b 0 (length b / 256)
 unfoldable pub decided_bits : Pair → List (List Float) → List ℕ
 decided_bits s [] = []
 decided_bits s (x ∷ xs) = cond ((decided s x).answer == 0) (bit_of (decided s x).verdict ∷ decided_bits (decided s x).state xs) []
+
+-- a state, a count of symbols and a number given back
+pub record Taken : Type 0 where
+  pub state : Pair
+  pub symbols : ℕ
+  pub answer : ℕ
+
+-- the number of a refusal, and 0 where there is none
+abbrev pub answer_for : Option Refusal → ℕ
+answer_for None = 0
+answer_for (Some e) = number_of e
+
+abbrev pub told : Given → Taken
+told t = record { state = t.state; symbols = t.symbols; answer = answer_for t.refusal }
 
 -- the state behind them, how many they are with k before them, and the answer to the next, 0 where there is none
 unfoldable pub taken_from : Pair → ℕ → List (List Float) → Taken

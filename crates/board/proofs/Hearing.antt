@@ -14,7 +14,7 @@ use Rattle.laws.proofs.Refusals.{stop, pass, none_left}
 use Rattle.laws.proofs.Elements.{by_test}
 use Rattle.frame.specs.declared.Heading.{Heading}
 use Rattle.frame.specs.Heading.{refusals, heading_fields, heading_of}
-use Rattle.frame.proofs.Accepted.{fields_are, refused_with}
+use Rattle.frame.proofs.Accepted.{answer_is, fields_are, refused_with}
 use Rattle.collector.specs.declared.Offered.{Offered}
 use Rattle.collector.specs.declared.Copied.{Copied}
 use Rattle.collector.specs.declared.Holding.{Holding}
@@ -50,6 +50,9 @@ module _ (c : Holdings) (f : List ℕ) where
 
   pub heading_is : (offer_gives c f).answer ≡ 1 → (heading_of f).heading ≡ heading_fields f
   heading_is e = fields_are f (heading_zero e)
+
+  pub heading_read : (offer_gives c f).answer ≡ 1 → (heading_of f).answer ≡ 0
+  heading_read e = answer_is f ∙ heading_zero e
 
 -- ---- a packet that is whole, as the code takes it in
 pub packet_copied : (c : Holdings) (l v : ℕ) (r : Copied) (q p : List ℕ) → r ≡ copy_gives c l v 250 → q ≡ copy_leaves c l v (zeros 250) → p ≡ take r.length q → p ≡ packet_in c l v

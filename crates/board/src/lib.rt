@@ -64,7 +64,7 @@ fn take_whole(board: Board, frame: &[u8], offered: Outcome, out: &mut [u8]) -> H
     ensures answer { result ≡ whole_heard board frame.now (length out.old) }
     ensures output { out.new ≡ taken_output board.stories (packet_of board frame.now) out.old }
 {
-    let h = frame::heading_of(frame).heading;
+    let h = frame::heading_of(frame).unwrap();
     let c = offered.collector;
     let mut packet = [0u8; 250];
     let n = collector::copy(c, h.level, h.version, &mut packet).length;

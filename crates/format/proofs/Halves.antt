@@ -8,7 +8,7 @@ use lib.ListN.{length, get_or, set, drop, drop_of_length-le}
 use lib.Seq.{sets}
 use lib.Dec.{leb}
 use Rattle.laws.specs.Bits.{at, bits_of, run, spread, bits}
-use Rattle.laws.proofs.Bits.{length_bits_of, at_bits, under_bits_of}
+use Rattle.laws.proofs.Bits.{Under, length_bits_of, at_bits, under_bits_of}
 use Rattle.laws.proofs.ByteFields.{at_byte}
 use Rattle.laws.proofs.Words.{bits_join}
 use Rattle.laws.proofs.Writes.{from_front, sets_append}
@@ -87,6 +87,17 @@ octets_put o d all k j x h s g e =
     let z : (k + j) * 8 + 8 ≡ (k + (j + 1)) * 8 = omega arith in
     spread_turn 8 d (bits o) (bits (set o (k + j) x)) all ((k + j) * 8) j x h e (bits_set o (k + j) x s) g
     ∙ ap (λ (q : ℕ). sets (bits (set o (k + j) x)) q (spread 8 (drop (j + 1) d))) z
+
+-- bytes put are their bits put
+pub octets_copied : (o d : List ℕ) (k : ℕ) → Under 256 d → bits (sets o k d) ≡ sets (bits o) (k * 8) (spread 8 d)
+unfolding spread
+octets_copied o [] k u = refl
+octets_copied o (x ∷ d) k u =
+    let n : k * 8 + length (bits_of 8 x) ≡ suc k * 8 = omega (arith, length_bits_of 8 x) in
+    octets_copied (set o k x) d (suc k) (λ i. u (suc i))
+    ∙ ap (λ (l : List ℕ). sets l (suc k * 8) (spread 8 d)) (bits_set o k x (u 0))
+    ∙ ap (λ (m : ℕ). sets (sets (bits o) (k * 8) (bits_of 8 x)) m (spread 8 d)) (sym n)
+    ∙ sym (sets_append (bits_of 8 x) (spread 8 d) (bits o) (k * 8))
 
 -- two half bytes are a byte
 pair_bits : (x y : ℕ) → bits_of 8 (x % 16 * 16 + y % 16) ≡ bits_of 4 x ++ bits_of 4 y

@@ -7,8 +7,8 @@ ghost use Rattle.laws.specs.Bits.{at, bits_of, run, spread, bits};
 ghost use Rattle.format.specs.Format.{inside};
 ghost use Rattle.format.specs.Reach.{reach, field_read, fields_read, in_range, field_bits, fields_bits};
 
-// A line: n numbers of w bits, each lo to hi; other is what a reader answers where one is not.
-// A line that is not free has no numbers of its own: each of its numbers is lo.
+// A line: `count` numbers of `width` bits, each lo to hi; `answer` is what a reader answers where one is not.
+// A line that is not given has no numbers of its own: each of its numbers is lo.
 #[derive(Clone, Copy)]
 pub struct Line {
     pub count: usize,
@@ -23,21 +23,10 @@ pub struct Line {
 fn reaches(p: usize, n: usize, w: usize) -> bool
     ensures { result ≡ reach p n w }
 {
-    if p < 65536 {
-        if n < 256 { w <= 32 } else { false }
-    } else {
-        false
-    }
+    p < 65536 && n < 256 && w <= 32
 }
 
 // ---- reading
-
-// The smaller of two.
-fn least(a: usize, b: usize) -> usize
-    ensures { result ≡ a - (a - b) }
-{
-    if a < b { a } else { b }
-}
 
 // The lowest k bits of a number, all ones.
 fn ones(k: usize) -> u32
@@ -52,12 +41,10 @@ fn bits_within(x: u8, i: usize, w: usize) -> u32
     requires { i + w ≤ 8 }
     ensures { result ≡ x / 2 ^ (8 - (i + w)) % 2 ^ w }
 {
-    let m = ones(w);
-    let y = x as u32;
-    (y >> ((8 - (i + w)) as u32)) & m
+    (u32::from(x) >> ((8 - (i + w)) as u32)) & ones(w)
 }
 
-// A part for each byte that the number lies in.
+// A part for each byte that the number lies in; a `while`, as each step is as long as the part that was read.
 fn read_parts(b: &[u8], p: usize, w: usize) -> u32
     requires { (w ≤ 32) × (p < 80000) }
     ensures { result ≡ at (bits b.now) p w }
@@ -66,7 +53,7 @@ fn read_parts(b: &[u8], p: usize, w: usize) -> u32
     let mut j: usize = 0;
     while j < w {
         let q = p + j;
-        let k = least(8 - q % 8, w - j);
+        let k = (8 - q % 8).min(w - j);
         let y = bits_within(octets::byte(b, q / 8), q % 8, k);
         x = (x << (k as u32)) + y;
         j += k;
@@ -117,13 +104,9 @@ fn read_each(b: &[u8], p: usize, n: usize, w: usize, out: &mut [u8], to: usize)
     requires { (w ≤ 8) × (p < 65536) × (n < 256) × (to < 65536) }
     ensures { out.new ≡ sets out.old to (run (bits b.now) p n w) }
 {
-    let mut q = p;
-    let mut j: usize = 0;
-    while j < n {
-        let x = small(b, q, w);
+    for j in 0..n {
+        let x = small(b, p + j * w, w);
         put(out, to + j, x);
-        q += w;
-        j += 1;
     }
 }
 
@@ -131,12 +114,8 @@ fn read_each(b: &[u8], p: usize, n: usize, w: usize, out: &mut [u8], to: usize)
 pub fn fields(b: &[u8], p: usize, n: usize, w: usize, out: &mut [u8], to: usize)
     ensures { out.new ≡ sets out.old to (fields_read (bits b.now) p n w to) }
 {
-    if reaches(p, n, w) {
-        if w <= 8 {
-            if to < 65536 {
-                read_each(b, p, n, w, out, to);
-            }
-        }
+    if reaches(p, n, w) && w <= 8 && to < 65536 {
+        read_each(b, p, n, w, out, to);
     }
 }
 
@@ -144,20 +123,9 @@ fn test_each(b: &[u8], p: usize, n: usize, w: usize, lo: u32, hi: u32) -> bool
     requires { (w ≤ 32) × (p < 65536) × (n < 256) }
     ensures { result ≡ inside lo hi (run (bits b.now) p n w) }
 {
-    let mut q = p;
-    let mut j: usize = 0;
-    while j < n {
-        let x = read_field(b, q, w);
-        if x < lo {
-            return false;
-        }
-        if x > hi {
-            return false;
-        }
-        q += w;
-        j += 1;
-    }
-    true
+    (0..n)
+        .map(|j| read_field(b, p + j * w, w))
+        .all(|x| lo <= x && x <= hi)
 }
 
 // Each of n numbers of w bits from bit p on is lo to hi.
@@ -179,7 +147,7 @@ fn with_field(x: u8, i: usize, w: usize, v: u32) -> u8
     ensures { result ≡ at (sets (bits_of 8 x) i (bits_of w v)) 0 8 }
 {
     let s = 8 - (i + w);
-    let y = x as u32;
+    let y = u32::from(x);
     let high = (y >> ((8 - i) as u32)) << (w as u32);
     let middle = v & ones(w);
     let low = y & ones(s);
@@ -196,7 +164,7 @@ fn put_within(out: &mut [u8], k: usize, i: usize, w: usize, v: u32)
     put(out, k, y);
 }
 
-// A part for each byte that the number lies in.
+// A part for each byte that the number lies in; a `while`, as each step is as long as the part that was written.
 fn write_parts(out: &mut [u8], p: usize, w: usize, x: u32)
     requires { (w ≤ 32) × (p < 80000) }
     ensures { bits out.new ≡ sets (bits out.old) p (bits_of w x) }
@@ -204,7 +172,7 @@ fn write_parts(out: &mut [u8], p: usize, w: usize, x: u32)
     let mut j: usize = 0;
     while j < w {
         let i = p + j;
-        let k = least(8 - i % 8, w - j);
+        let k = (8 - i % 8).min(w - j);
         put_within(out, i / 8, i % 8, k, x >> ((w - j - k) as u32));
         j += k;
     }
@@ -236,12 +204,8 @@ fn write_each(out: &mut [u8], p: usize, w: usize, d: &[u8])
     requires { (w ≤ 32) × (p < 65536) × (length d.now < 256) }
     ensures { bits out.new ≡ sets (bits out.old) p (spread w d.now) }
 {
-    let mut q = p;
-    let mut j: usize = 0;
-    while j < d.len() {
-        write_field(out, q, w, d[j] as u32);
-        q += w;
-        j += 1;
+    for (j, x) in d.iter().enumerate() {
+        write_field(out, p + j * w, w, u32::from(*x));
     }
 }
 
@@ -250,12 +214,7 @@ fn write_octets(out: &mut [u8], k: usize, d: &[u8])
     requires { k + length d.now ≤ length out.old }
     ensures { bits out.new ≡ sets (bits out.old) (k * 8) (spread 8 d.now) }
 {
-    let n = d.len();
-    let mut j: usize = 0;
-    while j < n {
-        out[k + j] = d[j];
-        j += 1;
-    }
+    out[k..k + d.len()].copy_from_slice(d);
 }
 
 // Numbers that are bytes, all within so many.
@@ -263,13 +222,7 @@ fn whole(p: usize, n: usize, w: usize, len: usize) -> bool
     requires { (p < 65536) × (n < 256) }
     ensures { result ≡ true → (w ≡ 8) × (p % 8 ≡ 0) × (p / 8 + n ≤ len) }
 {
-    if w != 8 {
-        return false;
-    }
-    if p % 8 != 0 {
-        return false;
-    }
-    p / 8 + n <= len
+    w == 8 && p % 8 == 0 && p / 8 + n <= len
 }
 
 // Bytes without a look at every one's place.

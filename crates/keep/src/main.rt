@@ -6,192 +6,107 @@
 ghost use Rattle.std.specs.Prelude.{◌≡◌, length};
 
 use collector::Holdings;
+use frame::Heading;
 use receiver::Receiver;
 use std::io;
 use std::io::Read;
 
-// The collector so far, the place of it that gives way next, and how many bytes the shelf has.
-#[derive(Clone, Copy)]
-struct Keeping {
+// The receiver and the collector so far, the place of it that gives way next, the shelf, how many bytes it has, and its summary.
+#[derive(Drop)]
+struct Keeping<'a> {
+    receiver: Receiver,
     collector: Holdings,
     turn: usize,
+    shelf: &'a mut [u8],
     length: usize,
+    summary: [u8; 256],
 }
 
-// The receiver so far, the rest, and whether the input has ended.
-#[derive(Clone, Copy)]
-struct Hearing {
-    receiver: Receiver,
-    keeping: Keeping,
-    ended: bool,
-}
-
-fn begin(length: usize) -> Hearing {
-    let r = receiver::fresh();
-    let c = collector::empty();
-    let k = Keeping {
-        collector: c,
-        turn: 0,
-        length: length,
-    };
-    Hearing {
-        receiver: r,
-        keeping: k,
-        ended: false,
+impl Keeping<'_> {
+    // Copies a record behind the shelf's last.
+    fn put_behind(&mut self, record: &[u8]) {
+        for (place, byte) in self.shelf.iter_mut().skip(self.length).zip(record) {
+            *place = *byte;
+        }
+        self.length = self.length.wrapping_add(record.len());
     }
-}
 
-fn put(shelf: &mut [u8], at: usize, v: u8) {
-    if at < shelf.len() {
-        shelf[at] = v;
-    }
-}
-
-// Copies a record behind the shelf's last; the shelf's length then.
-fn put_behind(shelf: &mut [u8], length: usize, given: &[u8]) -> usize {
-    let mut at = length;
-    let mut i: usize = 0;
-    while i < given.len() {
-        put(shelf, at, given[i]);
-        at = at.wrapping_add(1);
-        i += 1;
-    }
-    at
-}
-
-// Adds a record and says so; the shelf's length then.
-fn keep(
-    rt: &impl Print,
-    shelf: &mut [u8],
-    length: usize,
-    summary: &mut [u8],
-    given: &[u8],
-) -> io::Result<usize> {
-    let answer = shelf::add(octets::part(shelf, 0, length), given, summary);
-    rt.write_all(&[answer])?;
-    if answer != 0 {
-        return Ok(length);
-    }
-    rt.write_all(given)?;
-    rt.write_all(summary)?;
-    Ok(put_behind(shelf, length, given))
-}
-
-// The packet of the frame's pair is whole: it is kept, and the pair released.
-fn take_whole(
-    rt: &impl Print,
-    k: Keeping,
-    frame: &[u8],
-    shelf: &mut [u8],
-    summary: &mut [u8],
-) -> io::Result<Keeping> {
-    let h = frame::heading_of(frame).heading;
-    let c = k.collector;
-    let mut packet = [0u8; 250];
-    let n = collector::copy(c, h.level, h.version, &mut packet).length;
-    let mut record = [0u8; 256];
-    shelf::make(h.level, h.version, octets::part(&packet, 0, n), &mut record);
-    let length = keep(rt, shelf, k.length, summary, &record)?;
-    let d = collector::release(c, h.level, h.version).collector;
-    Ok(Keeping {
-        collector: d,
-        turn: k.turn,
-        length: length,
-    })
-}
-
-// The collector with one place free.
-fn with_room(c: Holdings, turn: usize) -> Holdings {
-    let p = c.places[turn % 4];
-    collector::release(c, p.level, p.version).collector
-}
-
-// Packets that lost a frame for good would hold every place; so where none is free (16) the places give way in turn, and the frame is offered again.
-fn hear(
-    rt: &impl Print,
-    k: Keeping,
-    frame: &[u8],
-    shelf: &mut [u8],
-    summary: &mut [u8],
-) -> io::Result<Keeping> {
-    let c = k.collector;
-    let mut turn = k.turn;
-    let mut offered = collector::offer(c, frame);
-    if offered.answer == 16 {
-        let full = offered.collector;
-        offered = collector::offer(with_room(full, turn), frame);
-        turn = (turn % 4 + 1) % 4;
-    }
-    let d = offered.collector;
-    let next = Keeping {
-        collector: d,
-        turn: turn,
-        length: k.length,
-    };
-    if offered.answer == 1 {
-        return take_whole(rt, next, frame, shelf, summary);
-    }
-    Ok(next)
-}
-
-// The first n frames of the receiver's output, in order.
-fn hear_all(
-    rt: &impl Print,
-    k: Keeping,
-    out: &[u8],
-    n: usize,
-    shelf: &mut [u8],
-    summary: &mut [u8],
-) -> io::Result<Keeping> {
-    let mut now = k;
-    let mut i: usize = 0;
-    let mut at: usize = 0;
-    while i < n {
-        now = hear(rt, now, octets::part(out, at, 8), shelf, summary)?;
-        at = at.wrapping_add(8);
-        i += 1;
-    }
-    Ok(now)
-}
-
-// Air bytes, as many as are there; none is the input's end.
-fn take_air(
-    rt: &impl Print,
-    input: &mut impl Read,
-    h: Hearing,
-    shelf: &mut [u8],
-    summary: &mut [u8],
-) -> io::Result<Hearing> {
-    let mut delivery = [0u8; 512];
-    let n = input.read(&mut delivery)?;
-    let mut frames = [0u8; 320];
-    let mut counts = [0u8; 40];
-    let r = h.receiver;
-    let received = receiver::receive(r, octets::part(&delivery, 0, n), &mut frames, &mut counts);
-    let k = h.keeping;
-    let keeping = hear_all(rt, k, &frames, received.frames, shelf, summary)?;
-    let receiver = received.receiver;
-    Ok(Hearing {
-        receiver: receiver,
-        keeping: keeping,
-        ended: n == 0,
-    })
-}
-
-// A proved loop ends, and nothing says that the input does: so the turns are counted up to a number that no run reaches.
-fn run(
-    rt: &impl Print,
-    input: &mut impl Read,
-    length: usize,
-    shelf: &mut [u8],
-    summary: &mut [u8],
-) -> io::Result<()> {
-    let mut h = begin(length);
-    for _ in 0..u64::MAX {
-        h = take_air(rt, input, h, shelf, summary)?;
-        if h.ended {
+    // Adds a record and says so.
+    fn keep(&mut self, rt: &impl Print, record: &[u8]) -> io::Result<()> {
+        let length = self.length;
+        let mut summary = self.summary;
+        let answer = shelf::add(octets::part(self.shelf, 0, length), record, &mut summary);
+        rt.write_all(&[answer])?;
+        if answer != 0 {
             return Ok(());
         }
+        rt.write_all(record)?;
+        rt.write_all(&summary)?;
+        self.summary = summary;
+        self.put_behind(record);
+        Ok(())
+    }
+
+    // The packet of a frame's pair is whole: it is kept, and the pair released.
+    fn take_whole(&mut self, rt: &impl Print, pair: Heading) -> io::Result<()> {
+        let mut packet = [0u8; 250];
+        let n = collector::copy(self.collector, pair.level, pair.version, &mut packet).length;
+        let mut record = [0u8; 256];
+        shelf::make(pair.level, pair.version, octets::part(&packet, 0, n), &mut record);
+        self.keep(rt, &record)?;
+        self.collector = collector::release(self.collector, pair.level, pair.version).collector;
+        Ok(())
+    }
+
+    // Makes the place free whose turn it is.
+    fn make_room(&mut self) {
+        let held = self.collector.places[self.turn % 4];
+        self.collector = collector::release(self.collector, held.level, held.version).collector;
+        self.turn = (self.turn % 4 + 1) % 4;
+    }
+
+    // Packets that lost a frame for good would hold every place; so where none is free (16) the places give way in turn, and the frame is offered again.
+    fn hear(&mut self, rt: &impl Print, frame: &[u8]) -> io::Result<()> {
+        let mut offered = collector::offer(self.collector, frame);
+        if offered.answer == 16 {
+            self.make_room();
+            offered = collector::offer(self.collector, frame);
+        }
+        self.collector = offered.collector;
+        match frame::heading_of(frame) {
+            Ok(pair) if offered.answer == 1 => self.take_whole(rt, pair),
+            _ => Ok(()),
+        }
+    }
+
+    // The first n frames of the receiver's output, in order.
+    fn hear_all(&mut self, rt: &impl Print, out: &[u8], n: usize) -> io::Result<()> {
+        for frame in out.chunks_exact(8).take(n) {
+            self.hear(rt, frame)?;
+        }
+        Ok(())
+    }
+
+    // Takes air bytes, as many as came.
+    fn take_air(&mut self, rt: &impl Print, delivery: &[u8]) -> io::Result<()> {
+        let mut frames = [0u8; 320];
+        let mut counts = [0u8; 40];
+        let received = receiver::receive(self.receiver, delivery, &mut frames, &mut counts);
+        self.receiver = received.receiver;
+        self.hear_all(rt, &frames, received.frames)
+    }
+}
+
+// Air bytes, as many as are there; none is the input's end. A proved loop ends, and nothing says that the input does: so the turns are counted up to a
+// number that no run reaches.
+fn run(rt: &impl Print, input: &mut impl Read, mut keeping: Keeping<'_>) -> io::Result<()> {
+    let mut delivery = [0u8; 512];
+    for _ in 0..u64::MAX {
+        let n = input.read(&mut delivery)?;
+        if n == 0 {
+            break;
+        }
+        keeping.take_air(rt, octets::part(&delivery, 0, n))?;
     }
     Ok(())
 }
@@ -209,7 +124,15 @@ fn start(
         return Ok(());
     }
     rt.write_all(&summary)?;
-    run(rt, input, length, shelf, &mut summary)
+    let keeping = Keeping {
+        receiver: receiver::fresh(),
+        collector: collector::empty(),
+        turn: 0,
+        shelf,
+        length,
+        summary,
+    };
+    run(rt, input, keeping)
 }
 
 // Room for 4,096 records.

@@ -4,86 +4,60 @@
 use std::io;
 use std::io::Read;
 
-// The latest 26 bits, how many bits came, how many places carried a letter, and whether the input has ended.
-#[derive(Clone, Copy)]
+// The latest 26 bits, how many bits came, and how many places carried a letter.
+#[derive(Default, Drop)]
 struct Looking {
     bits: u32,
     came: u64,
     blocks: u64,
-    ended: bool,
 }
 
-// Takes one bit more and prints the line of the 26 that end with it. No run counts to the end of 64 bits.
-fn look(rt: &impl Print, l: Looking, bit: u8) -> io::Result<Looking> {
-    let bits = l.bits % 0x200_0000 * 2 + (bit % 2) as u32;
-    let came = l.came.wrapping_add(1);
-    let mut blocks = l.blocks;
-    if came >= 26 {
+impl Looking {
+    // Takes one bit more and prints the line of the 26 that end with it. No run counts to the end of 64 bits.
+    fn look(&mut self, rt: &impl Print, bit: u8) -> io::Result<()> {
+        self.bits = self.bits % 0x200_0000 * 2 + u32::from(bit % 2);
+        self.came = self.came.wrapping_add(1);
+        if self.came < 26 {
+            return Ok(());
+        }
         let mut line = [0u8; 29];
-        let n = print::letter_line(came - 26, bits, &mut line);
-        if n > 0 {
-            if n <= 29 {
-                rt.write_all(&line[0..n])?;
-                blocks = blocks.wrapping_add(1);
-            }
+        let n = print::letter_line(self.came - 26, self.bits, &mut line);
+        if n > 0 && n <= 29 {
+            rt.write_all(&line[..n])?;
+            self.blocks = self.blocks.wrapping_add(1);
         }
+        Ok(())
     }
-    Ok(Looking {
-        bits,
-        came,
-        blocks,
-        ended: false,
-    })
+
+    // The bits of a byte, the highest first.
+    fn look_through(&mut self, rt: &impl Print, byte: u8) -> io::Result<()> {
+        for left in (0..8u32).rev() {
+            self.look(rt, byte >> left)?;
+        }
+        Ok(())
+    }
+
+    fn take(&mut self, rt: &impl Print, delivery: &[u8]) -> io::Result<()> {
+        for byte in delivery {
+            self.look_through(rt, *byte)?;
+        }
+        Ok(())
+    }
 }
 
-// The bits of a byte, the highest first.
-fn look_through(rt: &impl Print, l: Looking, byte: u8) -> io::Result<Looking> {
-    let mut now = l;
-    let mut left: u32 = 8;
-    while left > 0 {
-        left -= 1;
-        now = look(rt, now, byte >> left)?;
-    }
-    Ok(now)
-}
-
-fn take(rt: &impl Print, l: Looking, delivery: &[u8]) -> io::Result<Looking> {
-    let mut now = l;
-    let mut i: usize = 0;
-    while i < delivery.len() {
-        now = look_through(rt, now, delivery[i])?;
-        i += 1;
-    }
-    Ok(now)
-}
-
-// Reads some bytes and takes them; none is the input's end.
-fn step(rt: &impl Print, input: &mut impl Read, l: Looking) -> io::Result<Looking> {
-    let mut delivery = [0u8; 512];
-    let n = intake::fill(input, &mut delivery)?;
-    if n == 0 {
-        let mut last = l;
-        last.ended = true;
-        return Ok(last);
-    }
-    take(rt, l, &delivery[0..n])
-}
-
-// A proved loop ends, and nothing says that the input does: so the turns are counted up to a number that no run reaches.
+// Reads some bytes and takes them; none is the input's end. A proved loop ends, and nothing says that the input does: so the turns are counted up to a
+// number that no run reaches.
 fn run(rt: &impl Print, input: &mut impl Read) -> io::Result<u64> {
-    let mut l = Looking {
-        bits: 0,
-        came: 0,
-        blocks: 0,
-        ended: false,
-    };
+    let mut looking = Looking::default();
+    let mut delivery = [0u8; 512];
     for _ in 0..u64::MAX {
-        l = step(rt, input, l)?;
-        if l.ended {
-            return Ok(l.blocks);
+        let n = intake::fill(input, &mut delivery)?;
+        if n == 0 {
+            break;
         }
+        looking.take(rt, &delivery[..n])?;
     }
-    Ok(l.blocks)
+    Ok(looking.blocks)
 }
 
 fn main(rt: HostRuntime) -> io::Result<()> {

@@ -6,91 +6,67 @@ use receiver::Receiver;
 use std::io;
 use std::io::Read;
 
-// The receiver and the collector so far, how many frames came, and whether the input has ended.
-#[derive(Clone, Copy)]
+// The receiver and the collector so far, and how many frames came.
+#[derive(Drop)]
 struct Listing {
     receiver: Receiver,
     collector: Holdings,
     frames: u64,
-    ended: bool,
 }
 
-fn begin() -> Listing {
-    let r = receiver::fresh();
-    let c = collector::empty();
-    Listing {
-        receiver: r,
-        collector: c,
-        frames: 0,
-        ended: false,
-    }
-}
-
-// Offers a frame and prints its line: sixteen digits, a space, an answer of at most three, the line's end.
-fn show(rt: &impl Print, c: Holdings, frame: &[u8]) -> io::Result<Holdings> {
-    let offered = collector::offer(c, frame);
-    let mut line = [0u8; 21];
-    let n = print::frame_line(frame, offered.answer, &mut line);
-    if n <= 21 {
-        rt.write_all(&line[0..n])?;
-    }
-    Ok(offered.collector)
-}
-
-// The first n frames of the receiver's output, in order.
-fn show_all(rt: &impl Print, c: Holdings, out: &[u8], n: usize) -> io::Result<Holdings> {
-    let mut held = c;
-    let mut k: usize = 0;
-    while k < out.len() / 8 {
-        if n <= k {
-            return Ok(held);
+impl Listing {
+    fn begin() -> Listing {
+        Listing {
+            receiver: receiver::fresh(),
+            collector: collector::empty(),
+            frames: 0,
         }
-        let at = k * 8;
-        held = show(rt, held, &out[at..at + 8])?;
-        k += 1;
     }
-    Ok(held)
-}
 
-// Takes one delivery. No run counts to the end of 64 bits.
-fn take(rt: &impl Print, l: Listing, delivery: &[u8]) -> io::Result<Listing> {
-    let mut out = [0u8; 320];
-    let mut counts = [0u8; 40];
-    let r = l.receiver;
-    let got = receiver::receive(r, delivery, &mut out, &mut counts);
-    let c = l.collector;
-    let held = show_all(rt, c, &out, got.frames)?;
-    let next = got.receiver;
-    Ok(Listing {
-        receiver: next,
-        collector: held,
-        frames: l.frames.wrapping_add(got.frames as u64),
-        ended: false,
-    })
-}
-
-// Reads a delivery and takes it; an empty one is the input's end.
-fn step(rt: &impl Print, input: &mut impl Read, l: Listing) -> io::Result<Listing> {
-    let mut delivery = [0u8; 512];
-    let n = intake::fill(input, &mut delivery)?;
-    if n == 0 {
-        let mut last = l;
-        last.ended = true;
-        return Ok(last);
+    // Offers a frame and prints its line: sixteen digits, a space, an answer of at most three, the line's end.
+    fn show(&mut self, rt: &impl Print, frame: &[u8]) -> io::Result<()> {
+        let offered = collector::offer(self.collector, frame);
+        self.collector = offered.collector;
+        let mut line = [0u8; 21];
+        let n = print::frame_line(frame, offered.answer, &mut line);
+        if n <= 21 {
+            rt.write_all(&line[..n])?;
+        }
+        Ok(())
     }
-    take(rt, l, &delivery[0..n])
+
+    // The first n frames of the receiver's output, in order.
+    fn show_all(&mut self, rt: &impl Print, out: &[u8], n: usize) -> io::Result<()> {
+        for frame in out.chunks_exact(8).take(n) {
+            self.show(rt, frame)?;
+        }
+        Ok(())
+    }
+
+    // Takes one delivery. No run counts to the end of 64 bits.
+    fn take(&mut self, rt: &impl Print, delivery: &[u8]) -> io::Result<()> {
+        let mut out = [0u8; 320];
+        let mut counts = [0u8; 40];
+        let got = receiver::receive(self.receiver, delivery, &mut out, &mut counts);
+        self.receiver = got.receiver;
+        self.frames = self.frames.wrapping_add(got.frames as u64);
+        self.show_all(rt, &out, got.frames)
+    }
 }
 
-// A proved loop ends, and nothing says that the input does: so the turns are counted up to a number that no run reaches.
+// Reads a delivery and takes it; an empty one is the input's end. A proved loop ends, and nothing says that the input does: so the turns are counted up
+// to a number that no run reaches.
 fn run(rt: &impl Print, input: &mut impl Read) -> io::Result<u64> {
-    let mut l = begin();
+    let mut listing = Listing::begin();
+    let mut delivery = [0u8; 512];
     for _ in 0..u64::MAX {
-        l = step(rt, input, l)?;
-        if l.ended {
-            return Ok(l.frames);
+        let n = intake::fill(input, &mut delivery)?;
+        if n == 0 {
+            break;
         }
+        listing.take(rt, &delivery[..n])?;
     }
-    Ok(l.frames)
+    Ok(listing.frames)
 }
 
 fn main(rt: HostRuntime) -> io::Result<()> {

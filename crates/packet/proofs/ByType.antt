@@ -1,16 +1,14 @@
--- The kinds of the types that no single key names, that a kind's type has that kind, which types have none, and which are not written. Assumes nothing.
-use mathlib.Core.Bool.{Bool, true, false, not, cond, ◌||◌}
-use mathlib.Core.List.{List, [], ◌∷◌}
+-- That a kind's type has that kind, which types have none, and which are not written. Assumes nothing.
+use mathlib.Core.Bool.{Bool, true, false, not}
 use mathlib.Core.Path.{◌≡◌, refl, ap, ◌∙◌, sym}
-use Prim.Native.Nat.{ℕ, ◌<◌, ◌≤◌}
+use Prim.Native.Nat.{ℕ, ◌≤◌}
 use native.Mathlib.Omega.{arith}
 use native.Mathlib.Decide.{dec_lt}
-use borrow.Author.Tests.{le-leb, lt-leb, ne_eqb, eqb-true, ltb-true, ltb-false, not-true}
+use borrow.Author.Tests.{le-leb, lt-leb, ne_eqb, ltb-true, ltb-false, not-true}
 use Rattle.laws.specs.Below.{below}
 use Rattle.laws.proofs.Below.{at_each}
-use Rattle.laws.specs.Scan.{all}
-use Rattle.laws.proofs.Cases.{and_yes, or_yes, or_no, if_yes, if_no}
-use lib.Dec.{leb, ltb, eqb}
+use Rattle.laws.proofs.Cases.{or_yes, or_no}
+use lib.Dec.{leb, ltb}
 use Rattle.packet.specs.declared.Kind.{Kind}
 use Rattle.packet.specs.declared.Kind.TheVariants as kind
 use Rattle.packet.specs.Table.{kind_of, type_of, refused_type, unwritten_type}
@@ -35,43 +33,7 @@ kind_type kind.Unknown = refl
 pub same_kind : (f g : Kind) → type_of f ≡ type_of g → f ≡ g
 same_kind f g e = sym (kind_type f) ∙ ap kind_of e ∙ kind_type g
 
--- the types that `packet::kind_of` names one by one, the last of them first
-abbrev pub keys : List ℕ
-keys = 11 ∷ 21 ∷ 16 ∷ 15 ∷ 14 ∷ 13 ∷ 12 ∷ 3 ∷ 2 ∷ 1 ∷ 0 ∷ []
-
--- a number is none of these
-abbrev pub NoneOf : List ℕ → ℕ → Type 0
-NoneOf [] t = Unit
-NoneOf (k ∷ ks) t = NoneOf ks t × (t ≡ k → ⊥)
-
-abbrev apart : ℕ → List ℕ → Bool
-apart t ks = all (λ (k : ℕ). not (eqb t k)) ks
-
-none_apart : (ks : List ℕ) (t : ℕ) → NoneOf ks t → apart t ks ≡ true
-none_apart [] t o = refl
-none_apart (k ∷ ks) t o = and_yes (apart t ks) (ap not (ne_eqb t k o.1)) ∙ none_apart ks t o.0
-
--- below 25 such a type is raw up to 8 and from 21 on
-abbrev is_raw : ℕ → Bool
-is_raw t = leb t 8 || leb 21 t
-
-all_ranged : below 25 (λ (n : ℕ). not (apart n keys) || eqb (type_of (kind_of n)) (cond (is_raw n) 4 31)) ≡ true
-unfolding below kind_of
-all_ranged = refl
-
-module _ (t : ℕ) (o : NoneOf keys t) where
-  ranged : t < 25 → type_of (kind_of t) ≡ cond (is_raw t) 4 31
-  ranged h = eqb-true _ _ (sym (or_no _ (ap not (none_apart keys t o))) ∙ at_each 25 (λ (n : ℕ). not (apart n keys) || eqb (type_of (kind_of n)) (cond (is_raw n) 4 31)) all_ranged t h)
-
-  pub low : t < 9 → kind.Raw ≡ kind_of t
-  low h = sym (same_kind (kind_of t) kind.Raw (ranged (omega arith) ∙ if_yes 4 31 (or_yes (leb 21 t) (le-leb t 8 (omega arith)))))
-
-  pub high : 21 ≤ t → t < 25 → kind.Raw ≡ kind_of t
-  high k h = sym (same_kind (kind_of t) kind.Raw (ranged h ∙ if_yes 4 31 (or_no (leb 21 t) (lt-leb t 8 (omega arith)) ∙ le-leb 21 t k)))
-
-  pub middle : 9 ≤ t → t < 21 → kind.Unknown ≡ kind_of t
-  middle k h = sym (same_kind (kind_of t) kind.Unknown (ranged (omega arith) ∙ if_no 4 31 (or_no (leb 21 t) (lt-leb t 8 (omega arith)) ∙ lt-leb 21 t (omega arith))))
-
+-- a type from 25 on has no kind
 pub above : (t : ℕ) → 25 ≤ t → kind.Unknown ≡ kind_of t
 unfolding kind_of
 above t h = rw (le-leb 25 t h)

@@ -1,6 +1,6 @@
 -- What a computed test finds of every kind's lines, for columns; and rows of lines, row by row. Assumes nothing.
 use mathlib.Core.Path.{◌≡◌, refl, sym, ap, ap₂, ◌∙◌}
-use mathlib.Core.Bool.{Bool, true, not, ◌&&◌, ◌||◌}
+use mathlib.Core.Bool.{Bool, true, not, ◌&&◌, ◌||◌, and-true}
 use mathlib.Core.List.{List, [], ◌∷◌, ◌++◌}
 use Prim.Native.Nat.{ℕ, zero, suc, ◌+◌, ◌*◌, ◌%◌, ◌≤◌, ◌<◌}
 use native.Mathlib.Nat.{suc-mul, zero-mul}
@@ -8,6 +8,8 @@ use native.Mathlib.Omega.{arith}
 use lib.ListN.{length, get_or}
 use lib.Dec.{leb, eqb}
 use borrow.Author.Tests.{leb-true, eqb-true}
+use Rattle.std.specs.List.{list_all, range_with_len}
+use Rattle.std.proofs.lemmas.List.Folds.{list_all-append}
 use Rattle.laws.specs.Bits.{bits}
 use Rattle.laws.specs.Scan.{all}
 use Rattle.laws.specs.Strips.{joined, every}
@@ -82,6 +84,21 @@ numbers_rows (suc n) row b p =
     ∙ ap₂ (λ (x : ℕ) (y : List ℕ). numbers_at row b x ++ y) (omega (arith, zero-mul (size row)))
     (numbers_rows n row b (p + size row) ∙ joined_same n _ _ (λ r k. ap (numbers_at row b) (place p r (size row))))
     ∙ sym (joined_first n (λ r. numbers_at row b (p + r * size row)))
+
+-- a test of every number is one of a range
+pub every_range : (n : ℕ) (f : ℕ → Bool) → every n f ≡ list_all f (range_with_len 0 n)
+unfolding every
+every_range zero f = refl
+every_range (suc n) f =
+    ap (λ (y : Bool). y && f n) (every_range n f)
+    ∙ ap (λ (y : Bool). list_all f (range_with_len 0 n) && y) (sym (and-true (f n)))
+    ∙ sym (list_all-append f (range_with_len 0 n) (n ∷ []))
+    ∙ ap (λ (m : ℕ). list_all f (range_with_len 0 n ++ (m ∷ []))) (omega arith)
+    ∙ ap (list_all f) (sym (range_more 0 n))
+  where
+    range_more : (a m : ℕ) → range_with_len a (suc m) ≡ range_with_len a m ++ ((a + m) ∷ [])
+    range_more a zero = let e : a + 0 ≡ a = omega arith in rw e
+    range_more a (suc m) = let e : a + 1 + m ≡ a + suc m = omega arith in ap (λ (r : List ℕ). a ∷ r) (range_more (a + 1) m ∙ rw e)
 
 pub fine_rows : (k n : ℕ) (row : List Line) (l : List ℕ) (p : ℕ) → fine k (times n row) (decode (times n row) l p) ≡ every n (λ r. fine k row (decode row l (p + r * size row)))
 unfolding times every fine

@@ -18,10 +18,9 @@ use Rattle.packet.specs.declared.Content.{Content}
 use Rattle.packet.specs.declared.Content.TheVariants as content
 use Rattle.packet.specs.declared.Counting.TheVariants as counting
 use Rattle.packet.specs.Table.{kinds, type_of, row_of, count_by}
-use Rattle.packet.specs.declared.Laid.{Laid}
 use Rattle.packet.specs.Content.{Parts, parts_of, content_of, kind_for, numbers_of, numbers_in, count_for}
-use Rattle.packet.specs.Reading.{has_entries, unknown_by, is_unknown, padded}
-use Rattle.packet.specs.InCode.{laid_of, room, cut}
+use Rattle.packet.specs.Reading.{has_entries, unknown_by, is_unknown}
+use Rattle.packet.specs.InCode.{room, cut}
 use Rattle.packet.proofs.ByType.{same_kind}
 use Rattle.packet.proofs.Each.{each_kind}
 use Rattle.packet.proofs.Good.{raw_by}
@@ -133,9 +132,6 @@ unfolding of_its_type
 raw_only f h = same_kind f kind.Raw (eqb-true (type_of f) 4 (sym (if_yes (eqb (type_of f) 4) true (ap raw_by h)) ∙ and_right (cond (has_entries f) (eqb (type_of f) 0) true) _ (each_kind of_its_type one_type f)))
 
 -- ---- in code: a content laid out, and numbers cut to the room of their fields
-pub laid_is : (c : Content) (r : Laid) (xs : List ℕ) → r ≡ record { kind = kind_for c; n = length (numbers_of c); numbers = xs; count = (parts_of c).count } → xs ≡ padded 6 (numbers_of c) → r ≡ laid_of c
-laid_is c r xs e f = e ∙ ap (λ (l : List ℕ). record { kind = kind_for c; n = length (numbers_of c); numbers = l; count = (parts_of c).count }) f
-
 cut_below : (ws xs : List ℕ) (i : ℕ) → i < length ws → get_or (cut ws xs) i 0 ≡ get_or xs i 0 % room (get_or ws i 0)
 unfolding cut
 cut_below [] xs i h = absurd (omega arith)

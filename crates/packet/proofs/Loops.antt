@@ -1,8 +1,8 @@
 -- Laws for loops over the lines of the table: the line of a turn, the end, and rows of lines. Assumes nothing.
 use mathlib.Core.Path.{◌≡◌, refl, sym, ap, ◌∙◌}
 use mathlib.Core.List.{List, ◌∷◌}
-use mathlib.Core.Bool.{true, ◌&&◌}
-use Prim.Native.Nat.{ℕ, suc, ◌+◌, ◌-◌, ◌<◌, ◌≤◌}
+use mathlib.Core.Bool.{true}
+use Prim.Native.Nat.{ℕ, ◌+◌, ◌<◌, ◌≤◌}
 use native.Mathlib.Numerals.{add-one}
 use native.Mathlib.Decide.{dec_lt}
 use native.Mathlib.Omega.{arith}
@@ -11,9 +11,9 @@ use lib.Seq.{length-take-le, get_or-take, get_or-drop, drop-cons}
 use Rattle.laws.specs.Scan.{all}
 use Rattle.laws.proofs.Elements.{all_at}
 use Rattle.format.specs.declared.Line.{Line}
-use Rattle.format.specs.Format.{octets, times, size, need, own, decode, fine, sound, unmet}
+use Rattle.format.specs.Format.{octets, times, need, own, decode, fine, sound, unmet}
 use Rattle.packet.specs.InCode.{lines_of_each, every_line}
-use Rattle.format.proofs.Tables.{fine_append, all_times, unmet_fine}
+use Rattle.format.proofs.Tables.{all_times, unmet_fine}
 
 -- every line is one that the loops take, and so is what stands past the last
 every_sound : all sound every_line ≡ true
@@ -60,16 +60,5 @@ module _ (T : List Line) (j : ℕ) (d t : Line) (h : j < length T) (e : t ≡ ge
   need_turn i s f = let g : need (drop j T) ≡ own t + need (drop (j + 1) T) = rw lines_cons in omega arith
 
 -- ---- rows of lines
-pub rows_turn : (k n j : ℕ) (row : List Line) (l : List ℕ) (q s : ℕ) → j < n → s ≡ size row
-    → fine k (times (n - j) row) (decode (times (n - j) row) l q) ≡ (fine k row (decode row l q) && fine k (times (n - (j + 1)) row) (decode (times (n - (j + 1)) row) l (q + s)))
-unfolding times
-rows_turn k n j row l q s h e =
-    let i : n - j ≡ suc (n - (j + 1)) = omega arith in
-    rw (i, e) (fine_append k row (times (n - (j + 1)) row) l q)
-
-pub rows_done : (k n j : ℕ) (row : List Line) (l : List ℕ) (q : ℕ) → n ≤ j → fine k (times (n - j) row) (decode (times (n - j) row) l q) ≡ true
-unfolding times fine
-rows_done k n j row l q h = let i : n - j ≡ 0 = omega arith in rw i
-
 pub rows_unmet : (k n : ℕ) (row : List Line) (l : List ℕ) (q : ℕ) → all (unmet k) row ≡ true → fine k (times n row) (decode (times n row) l q) ≡ true
 rows_unmet k n row l q e = unmet_fine k (times n row) (decode (times n row) l q) (all_times (unmet k) n row e)

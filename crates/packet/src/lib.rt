@@ -139,6 +139,7 @@ pub struct Written {
 }
 
 // The kind of a type (000, table 2).
+#[tactic(auto, unfolding(crate::specs::Table::kind_of))]
 pub fn kind_of(t: u8) -> Kind
     ensures { result ≡ kind_of t }
 {
@@ -151,11 +152,8 @@ pub fn kind_of(t: u8) -> Kind
         13 => Kind::Factory,
         14 => Kind::Drill,
         15 => Kind::Text,
-        16 => Kind::Raw,
         21 => Kind::Hold,
-        4..=8 => Kind::Raw,
-        11 => Kind::Raw,
-        22..=24 => Kind::Raw,
+        4..=8 | 11 | 16 | 22..=24 => Kind::Raw,
         _ => Kind::Unknown,
     }
 }
@@ -184,62 +182,28 @@ pub fn no_such_day(c: Content) -> bool
     ensures { result ≡ no_such_day c }
 {
     match c {
-        Content::Raw => false,
-        Content::Frequencies { count: _ } => false,
-        Content::Address { length: _ } => false,
-        Content::Keep { on: _, period: _ } => false,
         Content::Clock {
             year,
             month,
             day,
-            hour: _,
-            minute: _,
-            second: _,
+            ..
         } => days::days_in(year, month) < day,
-        Content::Reset { change: _ } => false,
-        Content::Factory => false,
-        Content::Drill { action: _ } => false,
-        Content::Text {
-            kind: _,
-            set: _,
-            length: _,
-        } => false,
-        Content::Hold { serial: _ } => false,
+        _ => false,
     }
-}
-
-fn laid_as(kind: Kind, n: usize, numbers: [u32; 6], count: usize) -> Laid
-    ensures { result ≡ record { kind = kind; n = n; numbers = numbers; count = count } }
-{
-    Laid {
-        kind: kind,
-        n: n,
-        numbers: numbers,
-        count: count,
-    }
-}
-
-fn six(a: u32, b: u32, c: u32, d: u32, e: u32, f: u32) -> [u32; 6]
-    ensures { result ≡ a ∷ b ∷ c ∷ d ∷ e ∷ f ∷ [] }
-{
-    [a, b, c, d, e, f]
 }
 
 // From a content to its numbers: an arm a type.
+#[tactic(auto, unfolding(crate::specs::Reading::zeros))]
 pub fn lay(c: Content) -> Laid
     ensures { result ≡ laid_of c }
 {
-    match c {
-        Content::Raw => laid_as(Kind::Raw, 0, six(0, 0, 0, 0, 0, 0), 0),
-        Content::Frequencies { count } => laid_as(
-            Kind::Frequencies,
-            0,
-            six(0, 0, 0, 0, 0, 0),
-            count,
-        ),
-        Content::Address { length } => laid_as(Kind::Address, 0, six(0, 0, 0, 0, 0, 0), length),
+    let (kind, n, numbers, count) = match c {
+        Content::Raw => (Kind::Raw, 0, [0; 6], 0),
+        Content::Frequencies { count } => (Kind::Frequencies, 0, [0; 6], count),
+        Content::Address { length } => (Kind::Address, 0, [0; 6], length),
         Content::Keep { on, period } => {
-            laid_as(Kind::Keep, 2, six(on as u32, period as u32, 0, 0, 0, 0), 0)
+            let numbers = [u32::from(on), u32::from(period), 0, 0, 0, 0];
+            (Kind::Keep, 2, numbers, 0)
         }
         Content::Clock {
             year,
@@ -249,48 +213,47 @@ pub fn lay(c: Content) -> Laid
             minute,
             second,
         } => {
-            let numbers = six(
-                year as u32,
-                month as u32,
-                day as u32,
-                hour as u32,
-                minute as u32,
-                second as u32,
-            );
-            laid_as(Kind::Clock, 6, numbers, 0)
+            let numbers = [
+                u32::from(year),
+                u32::from(month),
+                u32::from(day),
+                u32::from(hour),
+                u32::from(minute),
+                u32::from(second),
+            ];
+            (Kind::Clock, 6, numbers, 0)
         }
-        Content::Reset { change } => laid_as(Kind::Reset, 1, six(change as u32, 0, 0, 0, 0, 0), 0),
-        Content::Factory => laid_as(Kind::Factory, 0, six(0, 0, 0, 0, 0, 0), 0),
-        Content::Drill { action } => laid_as(Kind::Drill, 1, six(action as u32, 0, 0, 0, 0, 0), 0),
+        Content::Reset { change } => (Kind::Reset, 1, [u32::from(change), 0, 0, 0, 0, 0], 0),
+        Content::Factory => (Kind::Factory, 0, [0; 6], 0),
+        Content::Drill { action } => (Kind::Drill, 1, [u32::from(action), 0, 0, 0, 0, 0], 0),
         Content::Text { kind, set, length } => {
-            laid_as(
-                Kind::Text,
-                2,
-                six(kind as u32, set as u32, 0, 0, 0, 0),
-                length,
-            )
+            let numbers = [u32::from(kind), u32::from(set), 0, 0, 0, 0];
+            (Kind::Text, 2, numbers, length)
         }
-        Content::Hold { serial } => laid_as(Kind::Hold, 1, six(serial as u32, 0, 0, 0, 0, 0), 0),
+        Content::Hold { serial } => (Kind::Hold, 1, [u32::from(serial), 0, 0, 0, 0, 0], 0),
+    };
+    Laid {
+        kind,
+        n,
+        numbers,
+        count,
     }
 }
 
-// The low byte of the number at i, and its two low bytes; 0 past the last.
-fn byte_at(xs: &[u32], i: usize) -> u8
-    ensures { result ≡ get_or xs.now i 0 % 256 }
-{
-    if i < xs.len() { (xs[i] % 256) as u8 } else { 0 }
-}
-
+// The two low bytes of the number at i, 0 past the last; and the low one of them.
 fn word_at(xs: &[u32], i: usize) -> u16
     ensures { result ≡ get_or xs.now i 0 % 65536 }
 {
-    if i < xs.len() {
-        (xs[i] % 65536) as u16
-    } else {
-        0
-    }
+    (xs.get(i).copied().unwrap_or(0) % 65536) as u16
 }
 
+fn byte_at(xs: &[u32], i: usize) -> u8
+    ensures { result ≡ get_or xs.now i 0 % 256 }
+{
+    (word_at(xs, i) % 256) as u8
+}
+
+#[tactic(auto, using(crate::proofs::Contents::cut_at), unfolding(crate::specs::InCode::widths))]
 fn clock(xs: &[u32]) -> Content
     ensures { result ≡ named_by kind.Clock xs.now 0 }
 {
@@ -305,11 +268,12 @@ fn clock(xs: &[u32]) -> Content
 }
 
 // From numbers to a content: an arm a type. A number that is too large for its field keeps its low bytes.
+#[tactic(auto, using(crate::proofs::Contents::cut_at), unfolding(crate::specs::InCode::widths))]
 pub fn named(f: Kind, numbers: &[u32], count: usize) -> Content
     ensures { result ≡ named_by f numbers.now count }
 {
     match f {
-        Kind::Frequencies => Content::Frequencies { count: count },
+        Kind::Frequencies => Content::Frequencies { count },
         Kind::Address => Content::Address { length: count },
         Kind::Keep => Content::Keep {
             on: byte_at(numbers, 0),
@@ -331,7 +295,6 @@ pub fn named(f: Kind, numbers: &[u32], count: usize) -> Content
         Kind::Hold => Content::Hold {
             serial: byte_at(numbers, 0),
         },
-        Kind::Raw => Content::Raw,
-        Kind::Unknown => Content::Raw,
+        Kind::Raw | Kind::Unknown => Content::Raw,
     }
 }

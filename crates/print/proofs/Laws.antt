@@ -4,7 +4,7 @@ use mathlib.Core.List.{List, [], ◌∷◌}
 use Prim.Native.Nat.{ℕ, suc, ◌+◌, ◌*◌, ◌/◌, ◌%◌, ◌<◌, ◌≤◌}
 use native.Mathlib.Omega.{arith}
 use native.Mathlib.Numerals.{add-one}
-use lib.ListN.{length, get_or, set, drop, length-set, drop_of_length-le}
+use lib.ListN.{length, get_or, set, drop, drop_of_length-le}
 use lib.Seq.{sets, drop-cons}
 use borrow.Author.Tests.{lt-ltb, le-ltb}
 use Rattle.laws.proofs.Cases.{if_yes, if_no}
@@ -40,28 +40,18 @@ unfolding hex_of
 length_hex [] = refl
 length_hex (b ∷ bs) = omega (arith, length_hex bs)
 
--- the loop: what is written when i bytes are done, and what is left to write
-pub record Going (frame out₀ out : List ℕ) (i : ℕ) : Type 0 where
-  pub within : i ≤ length frame
-  pub kept : length out ≡ length out₀
-  pub rest : sets out₀ 0 (hex_of frame) ≡ sets out (2 * i) (hex_of (drop i frame))
-
-pub going_first : (frame out : List ℕ) → Going frame out out 0
-going_first frame out = record { within = omega arith; kept = refl; rest = refl }
+-- the loop: what is left to write when i bytes are done
+abbrev pub Going : List ℕ → List ℕ → List ℕ → ℕ → Type 0
+Going frame out₀ out i = sets out₀ 0 (hex_of frame) ≡ sets out (2 * i) (hex_of (drop i frame))
 
 pub going_turn : (frame out₀ out : List ℕ) (i x y : ℕ) → Going frame out₀ out i → i < length frame → x ≡ glyph (get_or frame i 0 / 16) → y ≡ glyph (get_or frame i 0 % 16)
     → Going frame out₀ (set (set out (2 * i) x) (2 * i + 1) y) (i + 1)
 unfolding hex_of
 going_turn frame out₀ out i x y g h ex ey =
-    let k = g.kept in
     let e : 2 * i + 1 ≡ suc (2 * i) = omega arith in
     let f : 2 * (i + 1) ≡ suc (suc (2 * i)) = omega arith in
-    record {
-      within = omega arith;
-      kept = simp length-set k;
-      rest = g.rest ∙ rw (drop-cons frame i 0 h, f, e, add-one i, ex, ey);
-    }
+    g ∙ rw (drop-cons frame i 0 h, f, e, add-one i, ex, ey)
 
 pub going_last : (frame out₀ out : List ℕ) (i : ℕ) → Going frame out₀ out i → length frame ≤ i → out ≡ sets out₀ 0 (hex_of frame)
 unfolding hex_of
-going_last frame out₀ out i g h = sym (g.rest ∙ rw (drop_of_length-le frame h))
+going_last frame out₀ out i g h = sym (g ∙ rw (drop_of_length-le frame h))

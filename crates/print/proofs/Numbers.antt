@@ -1,19 +1,26 @@
 -- A number in decimal, its digits one by one and how many there are; and a few bytes stored one by one. Assumes nothing.
 use mathlib.Core.Path.{◌≡◌, refl, sym, ap, ◌∙◌, subst}
 use mathlib.Core.List.{List, [], ◌∷◌, ◌++◌}
-use Prim.Native.Nat.{ℕ, zero, suc, ◌+◌, ◌/◌, ◌%◌, ◌^◌, ◌≤◌, ◌<◌}
+use Prim.Native.Nat.{ℕ, zero, suc, ◌+◌, ◌/◌, ◌%◌, ◌^◌, ◌-◌, ◌≤◌, ◌<◌}
 use native.Mathlib.Nat.{div-lt_iff_lt-mul, pow-suc, zero-lt-suc}
 use native.Mathlib.Omega.{arith}
 use native.Mathlib.Numerals.{add-one}
-use lib.ListN.{length, set, length-append}
+use lib.ListN.{length, set, take, drop, length-set, length-append}
 use lib.Dec.{ltb}
 use lib.Seq.{sets}
 use mathlib.Core.Bool.{cond}
 use borrow.Author.Tests.{lt-ltb, le-ltb}
 use Rattle.laws.proofs.Cases.{if_yes, if_no}
 use Rattle.laws.proofs.Elements.{by_test}
+use borrow.Rule.Slice.PartMut.{put_mid}
+use mir.Syntax.{w16}
+use native.Mathlib.Decide.{dec_lt}
+use Rattle.std.specs.Int.{to_be_bytes}
+use Rattle.laws.proofs.Parts.{in_part}
 use Rattle.laws.proofs.Writes.{sets_append, from_front}
-use Rattle.print.specs.Letters.{digits_of, number_text, number_written, number_into}
+use Rattle.print.specs.Lines.{hex_of, decimal_of}
+use Rattle.print.proofs.Laws as laws
+use Rattle.print.specs.Letters.{digits_of, number_text, number_written, number_into, info_text}
 
 -- room for more digits than there are changes nothing
 more : (k n : ℕ) → n < 10 ^ suc k → digits_of (suc k) n ≡ digits_of (suc (suc k)) n
@@ -54,6 +61,24 @@ put_last n out rest k h u e w =
     let f : k ≡ 0 + length (number_text (n / 10)) = omega arith in
     rw (f, w) (sym (ap (sets out 0) (last_digit n h u) ∙ sets_append (number_text (n / 10)) ((48 + n % 10) ∷ []) out 0))
 
+-- a number below a thousand
+pub decimal : (n : ℕ) → n < 1000 → number_text n ≡ decimal_of n
+decimal n h =
+    elim (dec_lt n 10) [
+      | yes a ↦ one_digit n a ∙ laws.one_digit n a
+      | no a ↦
+          let two : number_text n ≡ number_text (n / 10) ++ ((48 + n % 10) ∷ []) = last_digit n (omega arith) (omega arith) in
+          elim (dec_lt n 100) [
+            | yes b ↦ two ∙ ap (λ (l : List ℕ). l ++ ((48 + n % 10) ∷ [])) (one_digit (n / 10) (omega arith)) ∙ laws.two_digits n (omega arith) b
+            | no b ↦
+                let e : n / 10 / 10 ≡ n / 100 = omega arith in
+                two
+                ∙ ap (λ (l : List ℕ). l ++ ((48 + n % 10) ∷ [])) (last_digit (n / 10) (omega arith) (omega arith) ∙ ap (λ (l : List ℕ). l ++ ((48 + n / 10 % 10) ∷ [])) (one_digit (n / 10 / 10) (omega arith)))
+                ∙ ap (λ (m : ℕ). (48 + m) ∷ (48 + n / 10 % 10) ∷ (48 + n % 10) ∷ []) e
+                ∙ laws.three_digits n (omega arith) (omega arith)
+          ]
+    ]
+
 -- ---- by whether there is room for twenty
 module _ (n : ℕ) (out : List ℕ) where
   pub no_number : length out < 20 → (0 ≡ number_written n out) × (out ≡ number_into n out)
@@ -66,19 +91,16 @@ module _ (n : ℕ) (out : List ℕ) where
       let s = le-ltb (length out) 20 h in
       (if_no _ _ s, if_no _ _ s ∙ sym (from_front (number_text n) out (omega (arith, at_most_20 n))))
 
--- ---- bytes stored one by one, from a byte on
-pub put_two : (out : List ℕ) (at x y : ℕ) → set (set out at x) (at + 1) y ≡ sets out at (x ∷ y ∷ [])
-put_two out at x y = rw (add-one at) refl
-
-pub put_three : (out : List ℕ) (at x y z : ℕ) → set (set (set out at x) (at + 1) y) (at + 2) z ≡ sets out at (x ∷ y ∷ z ∷ [])
-put_three out at x y z =
-    let e : at + 2 ≡ suc (suc at) = omega arith in
-    rw (add-one at, e) refl
-
-pub put_six : (out : List ℕ) (at u v w x y z : ℕ) → set (set (set (set (set (set out at u) (at + 1) v) (at + 2) w) (at + 3) x) (at + 4) y) (at + 5) z ≡ sets out at (u ∷ v ∷ w ∷ x ∷ y ∷ z ∷ [])
-put_six out at u v w x y z =
-    let e2 : at + 2 ≡ suc (suc at) = omega arith in
-    let e3 : at + 3 ≡ suc (suc (suc at)) = omega arith in
-    let e4 : at + 4 ≡ suc (suc (suc (suc at))) = omega arith in
+-- ---- a space, then two bytes in hex in the part behind it, then the line's end
+pub info_put : (info : ℕ) (out part : List ℕ) (at : ℕ) → info < 65536 → at + 6 ≤ length out → part ≡ sets (take (length (set out at 32) - (at + 1)) (drop (at + 1) (set out at 32))) 0 (hex_of (to_be_bytes w16 info))
+    → set (put_mid (at + 1) (length (set out at 32) - (at + 1)) (set out at 32) part) (at + 5) 10 ≡ sets out at (info_text info)
+unfolding info_text hex_of
+info_put info out part at h room p =
+    let o = set out at 32 in
+    let k = length-set out at 32 in
     let e5 : at + 5 ≡ suc (suc (suc (suc (suc at)))) = omega arith in
-    rw (add-one at, e2, e3, e4, e5) refl
+    let a : info / 256 % 256 / 16 ≡ info / 4096 = omega arith in
+    let b : info / 256 % 256 % 16 ≡ info / 256 % 16 = omega arith in
+    let c : info % 256 / 16 ≡ info / 16 % 16 = omega arith in
+    let d : info % 256 % 16 ≡ info % 16 = omega arith in
+    rw (in_part o (hex_of (to_be_bytes w16 info)) part (at + 1) (omega arith) p, e5, add-one at, a, b, c, d) refl

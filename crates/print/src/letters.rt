@@ -1,23 +1,23 @@
 // What the letters program prints of 26 bits that carry a letter.
-ghost use Rattle.std.specs.Prelude.{Some, ◌≡◌, ◌+◌, ◌/◌, ◌%◌, ◌<◌, ◌≤◌, length};
+ghost use Rattle.std.specs.Prelude.{Some, ◌≡◌, ◌∷◌, ◌+◌, ◌/◌, ◌%◌, ◌<◌, ◌≤◌, length};
 ghost use Rattle.std.proofs.lemmas.List.Edits.{sets};
 ghost use Rattle.print.specs.Letters.{number_text, number_written, number_into, letter_text, info_text, letter_written, letter_output};
 
-use crate::hex_glyph;
+use crate::put_hex;
 use block::AnyLetter;
 
 // The number's digits from the output's start, and how many.
-fn put_number(n: u64, out: &mut [u8]) -> usize
+pub(crate) fn put_number(n: u64, out: &mut [u8]) -> usize
     requires { length (number_text n) ≤ length out.old }
     ensures length { result ≡ length (number_text n) }
     ensures output { out.new ≡ sets out.old 0 (number_text n) }
 {
     if n < 10 {
-        out[0] = 48 + n as u8;
+        out[0] = b'0' + n as u8;
         return 1;
     }
     let k = put_number(n / 10, out);
-    out[k] = 48 + (n % 10) as u8;
+    out[k] = b'0' + (n % 10) as u8;
     k + 1
 }
 
@@ -33,36 +33,30 @@ pub fn number(n: u64, out: &mut [u8]) -> usize
     put_number(n, out)
 }
 
+// The name of a letter.
+fn name_of(letter: AnyLetter) -> &'static [u8]
+    ensures { 32 ∷ result.now ≡ letter_text (Some letter) }
+{
+    match letter {
+        AnyLetter::A => b"A",
+        AnyLetter::B => b"B",
+        AnyLetter::C => b"C",
+        AnyLetter::D => b"D",
+        AnyLetter::CPrime => b"C'",
+    }
+}
+
 // A space and the letter's name from a byte on, and how many bytes.
 fn put_letter(letter: AnyLetter, at: usize, out: &mut [u8]) -> usize
     requires { at + 3 ≤ length out.old }
     ensures length { result ≡ length (letter_text (Some letter)) }
     ensures output { out.new ≡ sets out.old at (letter_text (Some letter)) }
 {
-    out[at] = 32;
-    match letter {
-        AnyLetter::A => {
-            out[at + 1] = 65;
-            2
-        }
-        AnyLetter::B => {
-            out[at + 1] = 66;
-            2
-        }
-        AnyLetter::C => {
-            out[at + 1] = 67;
-            2
-        }
-        AnyLetter::D => {
-            out[at + 1] = 68;
-            2
-        }
-        AnyLetter::CPrime => {
-            out[at + 1] = 67;
-            out[at + 2] = 39;
-            3
-        }
-    }
+    let name = name_of(letter);
+    let end = at + 1 + name.len();
+    out[at] = b' ';
+    out[at + 1..end].copy_from_slice(name);
+    1 + name.len()
 }
 
 // A space, the information in hex and the line's end, from a byte on.
@@ -70,12 +64,9 @@ fn put_info(info: u16, at: usize, out: &mut [u8])
     requires { at + 6 ≤ length out.old }
     ensures { out.new ≡ sets out.old at (info_text info) }
 {
-    out[at] = 32;
-    out[at + 1] = hex_glyph((info / 4096) as u8);
-    out[at + 2] = hex_glyph((info / 256 % 16) as u8);
-    out[at + 3] = hex_glyph((info / 16 % 16) as u8);
-    out[at + 4] = hex_glyph((info % 16) as u8);
-    out[at + 5] = 10;
+    out[at] = b' ';
+    put_hex(&info.to_be_bytes(), &mut out[at + 1..]);
+    out[at + 5] = b'\n';
 }
 
 // Writes the line of 26 bits that carry a letter at the output's start and answers its length. Where they carry none, or the output has

@@ -16,7 +16,7 @@ pub(crate) fn hex_glyph(d: u8) -> u8
     requires { d < 16 }
     ensures { result ≡ glyph d }
 {
-    if d < 10 { 48 + d } else { 55 + d }
+    if d < 10 { b'0' + d } else { b'A' - 10 + d }
 }
 
 // The two characters of a byte.
@@ -31,25 +31,20 @@ pub(crate) fn put_hex(frame: &[u8], out: &mut [u8])
     requires { 2 * length frame.now ≤ length out.old }
     ensures { out.new ≡ sets out.old 0 (hex_of frame.now) }
 {
-    let mut i: usize = 0;
-    while i < frame.len() {
-        let b = frame[i];
+    for (i, b) in frame.iter().enumerate() {
         out[2 * i] = hex_glyph(b / 16);
         out[2 * i + 1] = hex_glyph(b % 16);
-        i += 1;
     }
 }
 
 pub(crate) fn decimal_length(n: u8) -> usize
     ensures { (result ≡ length (decimal_of n)) × (result < 4) }
 {
-    if n < 10 {
-        return 1;
+    match n {
+        0..=9 => 1,
+        10..=99 => 2,
+        _ => 3,
     }
-    if n < 100 {
-        return 2;
-    }
-    3
 }
 
 // The number, then the line's end.
@@ -57,21 +52,8 @@ pub(crate) fn put_answer(answer: u8, out: &mut [u8])
     requires { length (decimal_of answer) + 1 ≤ length out.old }
     ensures { out.new ≡ sets out.old 0 (decimal_of answer ++ (10 ∷ [])) }
 {
-    if answer < 10 {
-        out[0] = 48 + answer;
-        out[1] = 10;
-        return;
-    }
-    if answer < 100 {
-        out[0] = 48 + answer / 10;
-        out[1] = 48 + answer % 10;
-        out[2] = 10;
-        return;
-    }
-    out[0] = 48 + answer / 100;
-    out[1] = 48 + answer / 10 % 10;
-    out[2] = 48 + answer % 10;
-    out[3] = 10;
+    let end = letters::put_number(u64::from(answer), out);
+    out[end] = b'\n';
 }
 
 // Writes the frame's line at the output's start and answers its length; where the output is too short it writes nothing and answers 0.
@@ -89,7 +71,7 @@ pub fn frame_line(frame: &[u8], answer: u8, out: &mut [u8]) -> usize
     }
     let at = 2 * frame.len();
     put_hex(frame, out);
-    out[at] = 32;
+    out[at] = b' ';
     let from = at + 1;
     put_answer(answer, &mut out[from..]);
     at + digits + 2

@@ -13,7 +13,7 @@ fn put_spaced(n: u8, at: usize, out: &mut [u8]) -> usize
     let digits = decimal_length(n);
     put_answer(n, &mut out[at..]);
     let end = at + digits;
-    out[end] = 32;
+    out[end] = b' ';
     end + 1
 }
 
@@ -44,6 +44,6 @@ pub fn record_line(level: u8, version: u8, packet: &[u8], out: &mut [u8]) -> usi
     let from = put_front(level, version, size, out);
     put_hex(packet, &mut out[from..]);
     let end = from + 2 * packet.len();
-    out[end] = 10;
+    out[end] = b'\n';
     end + 1
 }

@@ -3,7 +3,7 @@ use Rattle.std.specs.Prelude.{Option, Some, None, ℕ}
 use Rattle.block.specs.declared.AnyLetter.{AnyLetter}
 use Rattle.block.specs.declared.AnyLetter.TheVariants.{A, B, C, CPrime, D}
 use Rattle.air.specs.OnAir.{Aired}
-use Rattle.samples.specs.declared.Decided.{Decided}
+use Rattle.samples.specs.Symbol.{Decided}
 use Rattle.samples.specs.declared.Verdict.{Verdict}
 use Rattle.samples.specs.declared.Verdict.TheVariants.{Zero, One, Undecided}
 use Rattle.samples.specs.Unrounded.{carried}

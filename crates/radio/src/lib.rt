@@ -117,13 +117,18 @@ fn product_of(verdict: Verdict) -> f64
 pub fn radio_decide(state: Pair, symbol: &[f64]) -> DecidedSymbol
     ensures { result ≡ decided_as (decided state symbol.now) }
 {
-    let d = samples::decide(state, symbol);
-    let verdict = d.verdict;
-    let next = d.state;
-    DecidedSymbol {
-        answer: d.answer,
-        verdict: verdict_number(verdict),
-        product: product_of(verdict),
-        state: next,
+    match samples::decide(state, symbol) {
+        Ok(decided) => DecidedSymbol {
+            answer: 0,
+            verdict: verdict_number(decided.verdict),
+            product: product_of(decided.verdict),
+            state: decided.state,
+        },
+        Err(refusal) => DecidedSymbol {
+            answer: refusal.number(),
+            verdict: 2,
+            product: 0.0,
+            state,
+        },
     }
 }

@@ -2,7 +2,7 @@
 use mathlib.Core.Path.{◌≡◌, refl, sym, ap, ap₂, ◌∙◌}
 use mathlib.Core.Bool.{Bool, true, cond, ◌&&◌, and-true}
 use mathlib.Core.List.{List, [], ◌∷◌, ◌++◌, append-nil}
-use Prim.Native.Nat.{ℕ, zero, suc, ◌+◌, ◌*◌, ◌%◌, ◌<◌, ◌≤◌}
+use Prim.Native.Nat.{min, ℕ, zero, suc, ◌+◌, ◌*◌, ◌%◌, ◌<◌, ◌≤◌}
 use native.Mathlib.Nat.{add-zero, zero-mul}
 use native.Mathlib.Numerals.{add-one}
 use native.Mathlib.Omega.{arith}
@@ -23,7 +23,7 @@ use Rattle.packet.specs.Reading.{numbers_at}
 use Rattle.packet.specs.Columns.{column, columns}
 use Rattle.packet.proofs.Columns.{numbers_rows, fine_rows}
 use Rattle.packet.proofs.Loops.{lines_cons}
-use Rattle.reader.specs.Due.{passing, lesser, Judged}
+use Rattle.reader.specs.Due.{passing, Judged}
 use Rattle.reader.specs.Taking.{own_at}
 use Rattle.reader.proofs.Due.{Going, going_turn, going_last, judged_same, both}
 use Rattle.reader.proofs.Leaves.{strips_none}
@@ -68,7 +68,7 @@ module _ (T : List Line) (j : ℕ) (d t : Line) (h : j < length T) (e : t ≡ ge
 
   pub due_turn : (l : List ℕ) (p q w n s : ℕ) (good : Bool) (x r y : ℕ) → w ≡ t.count * t.width → good ≡ every n (λ (k : ℕ). inside t.lo t.hi (run l (q + k * s) t.count t.width))
       → Going (λ (a : ℕ). every n (λ (k : ℕ). fine a T (decode T l (p + k * s)))) (λ (a : ℕ). every n (λ (k : ℕ). fine a (drop j T) (decode (drop j T) l (q + k * s)))) x
-      → Judged (passing t good) r → y ≡ lesser x r
+      → Judged (passing t good) r → y ≡ min x r
       → Going (λ (a : ℕ). every n (λ (k : ℕ). fine a T (decode T l (p + k * s)))) (λ (a : ℕ). every n (λ (k : ℕ). fine a (drop (j + 1) T) (decode (drop (j + 1) T) l (q + w + k * s)))) y
   unfolding fine decode
   due_turn l p q w n s good x r y ew eg g i ey =
@@ -134,7 +134,7 @@ codes_taken b o o'' n e =
     (e ∙ strips_same n _ (λ (k : ℕ). numbers_at code b (24 + k * 96)) o 0 23 (λ k h. ap (λ (x : ℕ). run (bits b) x 23 4) (omega arith) ∙ sym (append-nil (run (bits b) (24 + k * 96 + 4) 23 4))))
 
 pub codes_due : (l : List ℕ) (n : ℕ) (x y : Bool) (u v r : ℕ) → x ≡ every n (λ (k : ℕ). inside 15 15 (run l (24 + k * 96) 1 4)) → y ≡ every n (λ (k : ℕ). inside 0 9 (run l (28 + k * 96) 23 4))
-    → Judged (passing (ones 4) x) u → Judged (passing (digits 23) y) v → r ≡ lesser u v → Judged (λ (a : ℕ). fine a (times n code) (decode (times n code) l 24)) r
+    → Judged (passing (ones 4) x) u → Judged (passing (digits 23) y) v → r ≡ min u v → Judged (λ (a : ℕ). fine a (times n code) (decode (times n code) l 24)) r
 unfolding size fine decode
 codes_due l n x y u v r ex ey ju jv er =
     both (passing (ones 4) x) (passing (digits 23) y) _ u v r ju jv

@@ -2,7 +2,7 @@
 use mathlib.Core.Path.{◌≡◌, refl, sym, ap, subst, ◌∙◌}
 use mathlib.Core.Bool.{Bool, true, false, not, ◌&&◌, ◌||◌}
 use mathlib.Core.List.{List}
-use Prim.Native.Nat.{ℕ, ◌+◌, ◌-◌, ◌*◌, ◌/◌, ◌%◌, ◌<◌, ◌≤◌}
+use Prim.Native.Nat.{min, ℕ, ◌+◌, ◌-◌, ◌*◌, ◌/◌, ◌%◌, ◌<◌, ◌≤◌}
 use native.Mathlib.Nat.{mul_assoc, mul-le-mul_left, zero-mul}
 use native.Mathlib.Omega.{arith}
 use lib.ListN.{length, take-append-drop}
@@ -27,7 +27,7 @@ use Rattle.packet.proofs.Each.{each_kind}
 use Rattle.packet.proofs.Good.{good}
 use Rattle.packet.proofs.Columns.{columned}
 use Rattle.packet.proofs.Spans.{Parted, StandsFor, stands, parted}
-use Rattle.reader.specs.Due.{plain, lesser, Judged}
+use Rattle.reader.specs.Due.{plain, Judged}
 use Rattle.reader.specs.Taking.{Rows, Own, Entries, Holding}
 use Rattle.reader.proofs.Due.{both, asked_not}
 use Rattle.reader.proofs.ByColumns.{ends, one_due}
@@ -178,16 +178,16 @@ module _ (f : Kind) (k : ℕ) (l : List ℕ) (q : ℕ) where
       → Judged (λ (a : ℕ). fine a (own_of f) (decode (own_of f) l q)) u → Judged (λ (a : ℕ). every 1 (λ (n : ℕ). fine a (beside_of f) (decode (beside_of f) l (p + n * x)))) v
       → Judged (λ (a : ℕ). fine a (times k (row_of f).each) (decode (times k (row_of f).each) l (q + part_at (row_of f)))) w
       → Judged (λ (a : ℕ). every 1 (λ (n : ℕ). fine a (row_of f).after (decode (row_of f).after l (r + n * y)))) d
-      → Judged (λ (a : ℕ). fine a (content_lines (row_of f) k) (decode (content_lines (row_of f) k) l q)) (lesser (lesser u v) (lesser w d))
+      → Judged (λ (a : ℕ). fine a (content_lines (row_of f) k) (decode (content_lines (row_of f) k) l q)) (min (min u v) (min w d))
   content_due p r u v w x d y ep er ju jv jw jd =
       let F = (row_of f).before in
-      let front : Judged (λ (a : ℕ). fine a F (decode F l q)) (lesser u v) =
+      let front : Judged (λ (a : ℕ). fine a F (decode F l q)) (min u v) =
       both _ _ _ u v _ ju (one_due (beside_of f) l p x v jv) (λ a h. two a ∙ ap (λ (z : ℕ). fine a (own_of f) (decode (own_of f) l q) && fine a (beside_of f) (decode (beside_of f) l z)) (sym ep)) refl
       in
-      let rest : Judged (λ (a : ℕ). fine a (times k (row_of f).each) (decode (times k (row_of f).each) l (q + part_at (row_of f))) && fine a (row_of f).after (decode (row_of f).after l (q + part_at (row_of f) + k * size (row_of f).each))) (lesser w d) =
+      let rest : Judged (λ (a : ℕ). fine a (times k (row_of f).each) (decode (times k (row_of f).each) l (q + part_at (row_of f))) && fine a (row_of f).after (decode (row_of f).after l (q + part_at (row_of f) + k * size (row_of f).each))) (min w d) =
       both _ _ _ w d _ jw (one_due (row_of f).after l r y d jd) (λ a h. ap (λ (z : ℕ). fine a (times k (row_of f).each) (decode (times k (row_of f).each) l (q + part_at (row_of f))) && fine a (row_of f).after (decode (row_of f).after l z)) (sym er)) refl
       in
-      both _ _ _ (lesser u v) (lesser w d) _ front rest (λ a h. content_parts a (row_of f) k l q (asked_not a h)) refl
+      both _ _ _ (min u v) (min w d) _ front rest (λ a h. content_parts a (row_of f) k l q (asked_not a h)) refl
     where
       two : (a : ℕ) → fine a (row_of f).before (decode (row_of f).before l q) ≡ (fine a (own_of f) (decode (own_of f) l q) && fine a (beside_of f) (decode (beside_of f) l (q + size (own_of f))))
       two a = ap (λ (ts : List Line). fine a ts (decode ts l q)) (sym (take-append-drop (own_lines f) (row_of f).before)) ∙ fine_append a (own_of f) (beside_of f) l q
@@ -196,7 +196,7 @@ module _ (f : Kind) (k : ℕ) (l : List ℕ) (q : ℕ) where
   pub held_due : (O N E A : List Line) (p t r x y u v w d e : ℕ) → O ≡ own_of f → N ≡ beside_of f → E ≡ (row_of f).each → A ≡ (row_of f).after → p ≡ q + size O → t ≡ q + part_at (row_of f) → r ≡ t + k * size (row_of f).each
       → Judged (λ (a : ℕ). fine a O (decode O l q)) u → Judged (λ (a : ℕ). every 1 (λ (n : ℕ). fine a N (decode N l (p + n * x)))) v
       → Judged (λ (a : ℕ). fine a (times k E) (decode (times k E) l t)) w → Judged (λ (a : ℕ). every 1 (λ (n : ℕ). fine a A (decode A l (r + n * y)))) d
-      → e ≡ lesser (lesser u v) (lesser w d) → Judged (λ (a : ℕ). fine a (content_lines (row_of f) k) (decode (content_lines (row_of f) k) l q)) e
+      → e ≡ min (min u v) (min w d) → Judged (λ (a : ℕ). fine a (content_lines (row_of f) k) (decode (content_lines (row_of f) k) l q)) e
   held_due O N E A p t r x y u v w d e eo en ee ea ep et er ju jv jw jd g =
       subst (Judged _) (sym g)
       (content_due p r u v w x d y (ep ∙ ap (λ (ts : List Line). q + size ts) eo) (er ∙ ap (λ (n : ℕ). n + k * size (row_of f).each) et)

@@ -2,7 +2,7 @@
 use mathlib.Core.Path.{◌≡◌, refl, sym, ap, subst, ◌∙◌}
 use mathlib.Core.Bool.{Bool, true, false, not, ◌&&◌, ◌||◌}
 use mathlib.Core.List.{List, [], ◌∷◌}
-use Prim.Native.Nat.{ℕ, ◌+◌, ◌*◌, ◌<◌, ◌≤◌}
+use Prim.Native.Nat.{min, ℕ, ◌+◌, ◌*◌, ◌<◌, ◌≤◌}
 use native.Mathlib.Decide.{dec_lt}
 use native.Mathlib.Omega.{arith}
 use lib.ListN.{length, get_or, drop, drop_of_length-le, get_or-eq_default}
@@ -16,7 +16,7 @@ use Rattle.format.specs.declared.Line.{Line}
 use Rattle.format.specs.Format.{octets, times, decode, line_ok, fine, unmet}
 use Rattle.packet.specs.InCode.{lines_of_each, every_line}
 use Rattle.packet.proofs.Loops.{lines_cons, rows_unmet}
-use Rattle.reader.specs.Due.{asked, plain, asks, passing, lesser, Judged}
+use Rattle.reader.specs.Due.{asked, plain, asks, passing, Judged}
 
 -- ---- parts behind each other: F is the whole, G what is still to come
 pub record Going (F G : ℕ → Bool) (d : ℕ) : Type 0 where
@@ -26,13 +26,13 @@ pub record Going (F G : ℕ → Bool) (d : ℕ) : Type 0 where
 pub going_first : (F : ℕ → Bool) → Going F F 255
 going_first F = record { rest = λ k a l. refl; found = λ l. absurd (omega arith) }
 
-pub going_turn : (F G H K : ℕ → Bool) (d r e : ℕ) → Going F G d → Judged H r → ((k : ℕ) → G k ≡ (H k && K k)) → e ≡ lesser d r → Going F K e
+pub going_turn : (F G H K : ℕ → Bool) (d r e : ℕ) → Going F G d → Judged H r → ((k : ℕ) → G k ≡ (H k && K k)) → e ≡ min d r → Going F K e
 going_turn F G H K d r e g h s w = by_test (ltb r d) less more
   where
     less : ltb r d ≡ true → Going F K e
     less t =
         let l : r < d = ltb-true r d t in
-        let x : e ≡ r = w ∙ if_yes r d t in
+        let x : e ≡ r = omega (arith, w, l) in
         subst (Going F K) (sym x)
         (record {
           rest = λ k a m. g.rest k a (omega arith) ∙ s k ∙ and_yes (K k) (h.fine k a m);
@@ -42,20 +42,20 @@ going_turn F G H K d r e g h s w = by_test (ltb r d) less more
     more : ltb r d ≡ false → Going F K e
     more t =
         let l : d ≤ r = ltb-false r d t in
-        let x : e ≡ d = w ∙ if_no r d t in
+        let x : e ≡ d = omega (arith, w, l) in
         subst (Going F K) (sym x) (record { rest = λ k a m. g.rest k a m ∙ s k ∙ and_yes (K k) (h.fine k a (omega arith)); found = g.found })
 
 pub going_last : (F G : ℕ → Bool) (d : ℕ) → Going F G d → ((k : ℕ) → G k ≡ true) → Judged F d
 going_last F G d g e = record { fine = λ k a l. g.rest k a l ∙ e k; due = g.found }
 
 -- two parts
-pub both : (F H W : ℕ → Bool) (r s e : ℕ) → Judged F r → Judged H s → ((k : ℕ) → asked k ≡ true → W k ≡ (F k && H k)) → e ≡ lesser r s → Judged W e
+pub both : (F H W : ℕ → Bool) (r s e : ℕ) → Judged F r → Judged H s → ((k : ℕ) → asked k ≡ true → W k ≡ (F k && H k)) → e ≡ min r s → Judged W e
 both F H W r s e f h w x = by_test (ltb s r) less more
   where
     less : ltb s r ≡ true → Judged W e
     less t =
         let l : s < r = ltb-true s r t in
-        let y : e ≡ s = x ∙ if_yes s r t in
+        let y : e ≡ s = omega (arith, x, l) in
         subst (Judged W) (sym y)
         (record {
           fine = λ k a m. w k a ∙ and_yes (H k) (f.fine k a (omega arith)) ∙ h.fine k a m;
@@ -65,7 +65,7 @@ both F H W r s e f h w x = by_test (ltb s r) less more
     more : ltb s r ≡ false → Judged W e
     more t =
         let l : r ≤ s = ltb-false s r t in
-        let y : e ≡ r = x ∙ if_no s r t in
+        let y : e ≡ r = omega (arith, x, l) in
         subst (Judged W) (sym y)
         (record {
           fine = λ k a m. w k a ∙ and_yes (H k) (f.fine k a m) ∙ h.fine k a (omega arith);
@@ -118,7 +118,7 @@ asks_at i = elim (dec_lt i (length every_line)) [
 -- ---- lines, t being the j-th
 module _ (T : List Line) (j : ℕ) (d t : Line) (h : j < length T) (e : t ≡ get_or T j d) where
   pub lines_turn : (l : List ℕ) (p q w : ℕ) → w ≡ t.count * t.width → (a r m : ℕ) → Going (λ (k : ℕ). fine k T (decode T l p)) (λ (k : ℕ). fine k (drop j T) (decode (drop j T) l q)) a
-      → Judged (λ (k : ℕ). line_ok k t (run l q t.count t.width)) r → m ≡ lesser a r
+      → Judged (λ (k : ℕ). line_ok k t (run l q t.count t.width)) r → m ≡ min a r
       → Going (λ (k : ℕ). fine k T (decode T l p)) (λ (k : ℕ). fine k (drop (j + 1) T) (decode (drop (j + 1) T) l (q + w))) m
   unfolding fine decode
   lines_turn l p q w ew a r m g i x =
@@ -141,5 +141,5 @@ pub rows_plain : (n : ℕ) (row : List Line) (l : List ℕ) (q : ℕ) → all pl
 rows_plain n row l q h = none_due (λ (k : ℕ). fine k (times n row) (decode (times n row) l q)) (λ k a. rows_unmet k n row l q (plain_unmet k row a h))
 
 -- the smaller of two is at most the first
-pub lesser_left : (a b : ℕ) → lesser a b ≤ a
-lesser_left a b = by_test (ltb b a) (λ t. rw t (omega (arith, ltb-true b a t))) (λ t. rw t (omega arith))
+pub min_left : (a b : ℕ) → min a b ≤ a
+min_left a b = omega arith

@@ -1,18 +1,18 @@
 -- The loops over half bytes, bytes and rows: a turn of each, and flags that a test puts down. Assumes nothing.
 use mathlib.Core.Path.{◌≡◌, refl, sym, ap, ap₂, ◌∙◌}
-use mathlib.Core.Bool.{Bool, true, false, cond, ◌&&◌, and-true, and-false}
-use mathlib.Core.Logic.{◌⊎◌, ⊎_elim}
-use mathlib.Core.List.{List, [], ◌∷◌}
+use mathlib.Core.Bool.{Bool, true, false, cond, ◌&&◌, and-true, and_assoc}
+use mathlib.Core.List.{List, [], ◌∷◌, ◌++◌}
 use Prim.Native.Nat.{ℕ, zero, suc, ◌+◌, ◌-◌, ◌*◌, ◌/◌, ◌%◌, ◌<◌, ◌≤◌}
-use native.Mathlib.Nat.{suc-mul, mul_assoc}
+use native.Mathlib.Nat.{mul_assoc}
 use native.Mathlib.Numerals.{add-one}
 use native.Mathlib.Omega.{arith}
-use lib.ListN.{get_or, set}
-use lib.Seq.{sets}
+use lib.ListN.{length, get_or, set, take, drop, length-drop, take-append-drop}
+use lib.Seq.{sets, length-take-le}
 use lib.Dec.{leb, eqb}
-use borrow.Author.Tests.{le-leb, lt-leb, leb-true, leb-false, eq-eqb, ne_eqb, eqb-true, eqb-false}
+use borrow.Author.Tests.{le-leb, lt-leb, leb-true, eq-eqb, ne_eqb, eqb-true, eqb-false}
 use Rattle.laws.specs.Bits.{at, run, bits}
 use Rattle.laws.specs.Strips.{strips, every}
+use Rattle.laws.proofs.Bits.{Under, length_spread, spread_append, run_right, run_spread, under_drop}
 use Rattle.laws.proofs.Cases.{if_yes, if_no, and_yes, and_no, and_both}
 use Rattle.laws.proofs.ByteFields.{at_parts}
 use Rattle.laws.proofs.Elements.{by_test}
@@ -22,60 +22,63 @@ use Rattle.format.specs.Format.{inside, own}
 use Rattle.format.proofs.Sound.{sound_is}
 use Rattle.packet.specs.Columns.{single, digits_line, octet_line, column}
 use Rattle.reader.specs.Taking.{own_at, Digits, Octets, Each, Column}
-use Rattle.format.proofs.Leaves.{run_done}
-use Rattle.format.proofs.Halves.{byte_at, low_half, pairs_step}
+use Rattle.format.proofs.Leaves.{store_more, inside_more}
+use Rattle.format.proofs.Halves.{byte_at, high_half, low_half}
+use Rattle.std.specs.List.{list_all, range_with_len}
+use Rattle.std.proofs.lemmas.List.Folds.{list_all-append}
 
--- ---- a flag that a test puts down, or leaves
-pub flagged : {A B : Type 0} (h g t : Bool) → (A → t ≡ false) → (B → t ≡ true) → (A × (h ≡ false)) ⊎ (B × (h ≡ g)) → h ≡ (g && t)
-flagged h true t f e w = ⊎_elim (λ u. u.1 ∙ sym (f u.0)) (λ u. u.1 ∙ sym (e u.0)) w
-flagged h false t f e w = ⊎_elim (λ u. u.1) (λ u. u.1) w
+-- ---- a number tested by its two ends
+pub within_yes : (h : Bool) (lo x hi : ℕ) → lo ≤ x → h ≡ leb x hi → h ≡ (leb lo x && leb x hi)
+within_yes h lo x hi l e = e ∙ sym (and_yes (leb x hi) (le-leb lo x l))
 
--- a number that is tested by its two ends
-pub both_ends : (g h l : Bool) (lo hi x : ℕ) → h ≡ (g && leb lo x) → l ≡ (h && leb x hi) → l ≡ (g && inside lo hi (x ∷ []))
+pub within_no : (h : Bool) (lo x hi : ℕ) → x < lo → h ≡ leb lo x → h ≡ (leb lo x && leb x hi)
+within_no h lo x hi l e = e ∙ lt-leb lo x l ∙ sym (and_no (leb x hi) (lt-leb lo x l))
+
+pub inside_one : (lo hi x : ℕ) → inside lo hi (x ∷ []) ≡ (leb lo x && leb x hi)
 unfolding inside
-both_ends g h l lo hi x e f = f ∙ ap (λ (y : Bool). y && leb x hi) e ∙ turned g (leb lo x) (leb x hi)
-  where
-    turned : (g a b : Bool) → ((g && a) && b) ≡ (g && ((a && b) && true))
-    turned true true true = refl
-    turned true true false = refl
-    turned true false b = refl
-    turned false a b = refl
+inside_one lo hi x = and-true (leb lo x && leb x hi)
+
+-- the first j numbers of a run and one more
+pub judged_more : (l : List ℕ) (g h : Bool) (lo hi p j w x : ℕ) → x ≡ at l (p + j * w) w → g ≡ inside lo hi (run l p j w) → h ≡ (leb lo x && leb x hi) → (g && h) ≡ inside lo hi (run l p (j + 1) w)
+judged_more l g h lo hi p j w x e f k = ap₂ (λ (u v : Bool). u && v) f k ∙ sym (inside_more l p j w lo hi x e)
 
 -- ---- the two halves of a byte
 first_digit : (x : ℕ) (xs : List ℕ) → inside 0 9 (x ∷ xs) ≡ (leb x 9 && inside 0 9 xs)
 unfolding inside
 first_digit x xs = rw (le-leb 0 x (omega arith))
 
--- a half byte above 9 counts one more, a digit none
-half_counted : (g u : ℕ) (r : List ℕ) → u < 16 → (eqb g 0 && inside 0 9 (u ∷ r)) ≡ (eqb (g + (u + 6) / 16) 0 && inside 0 9 r)
-half_counted g u r h =
-    by_test (leb u 9)
-    (λ t.
-    let z : g ≡ g + (u + 6) / 16 = omega (arith, leb-true u 9 t) in
-    ap₂ (λ (n : ℕ) (y : Bool). eqb n 0 && y) z (first_digit u r ∙ and_yes (inside 0 9 r) t))
-    (λ t.
-    ap (λ (y : Bool). eqb g 0 && y) (first_digit u r ∙ and_no (inside 0 9 r) t)
-    ∙ and-false (eqb g 0)
-    ∙ sym (and_no (inside 0 9 r) (ne_eqb (g + (u + 6) / 16) 0 (λ z. omega (arith, leb-false u 9 t, z)))))
+module _ (b : List ℕ) (k j x : ℕ) (s : x < 256) (e : x ≡ get_or b (k + j) 0) where
+  high_is : x / 16 ≡ at (bits b) (k * 8 + 2 * j * 4) 4
+  high_is = let p : (k + j) * 8 ≡ k * 8 + 2 * j * 4 = omega arith in high_half b (k + j) x s e ∙ ap (λ (q : ℕ). at (bits b) q 4) p
 
-pub pairs_counted : (b : List ℕ) (all : Bool) (g k m j x : ℕ) → j < m → x < 256 → x ≡ get_or b (k + j) 0 → all ≡ (eqb g 0 && inside 0 9 (run (bits b) ((k + j) * 8) (2 * m - 2 * j) 4))
-    → all ≡ (eqb (g + ((x / 16 + 6) / 16 + (x % 16 + 6) / 16)) 0 && inside 0 9 (run (bits b) ((k + (j + 1)) * 8) (2 * m - 2 * (j + 1)) 4))
-pairs_counted b all g k m j x i s e f =
-    let r = run (bits b) ((k + (j + 1)) * 8) (2 * m - 2 * (j + 1)) 4 in
-    let z : g + (x / 16 + 6) / 16 + (x % 16 + 6) / 16 ≡ g + ((x / 16 + 6) / 16 + (x % 16 + 6) / 16) = omega arith in
-    f ∙ ap (λ (y : List ℕ). eqb g 0 && inside 0 9 y) (pairs_step b k m j x i s e)
-    ∙ half_counted g (x / 16) (x % 16 ∷ r) (omega arith)
-    ∙ half_counted (g + (x / 16 + 6) / 16) (x % 16) r (omega arith)
-    ∙ ap (λ (n : ℕ). eqb n 0 && inside 0 9 r) z
+  low_is : x % 16 ≡ at (bits b) (k * 8 + (2 * j + 1) * 4) 4
+  low_is = let p : (k + j) * 8 + 4 ≡ k * 8 + (2 * j + 1) * 4 = omega arith in low_half b (k + j) x e ∙ ap (λ (q : ℕ). at (bits b) q 4) p
 
-pub flag_done : (l : List ℕ) (all g : Bool) (lo hi q n w j : ℕ) → n ≤ j → all ≡ (g && inside lo hi (run l q (n - j) w)) → g ≡ all
-unfolding inside
-flag_done l all g lo hi q n w j h e = sym (e ∙ ap (λ (r : List ℕ). g && inside lo hi r) (run_done l q n w j h) ∙ and-true g)
+  two : 2 * j + 1 + 1 ≡ 2 * (j + 1)
+  two = omega arith
+
+  pub pair_stored : (o u : List ℕ) (to : ℕ) → u ≡ sets o to (run (bits b) (k * 8) (2 * j) 4) → set (set u (to + 2 * j) (x / 16)) (to + 2 * j + 1) (x % 16) ≡ sets o to (run (bits b) (k * 8) (2 * (j + 1)) 4)
+  pair_stored o u to f =
+      let v = set u (to + 2 * j) (x / 16) in
+      let p : to + 2 * j + 1 ≡ to + (2 * j + 1) = omega arith in
+      store_more (bits b) o v (set v (to + 2 * j + 1) (x % 16)) to (k * 8) (2 * j + 1) 4 (x % 16)
+      (store_more (bits b) o u v to (k * 8) (2 * j) 4 (x / 16) f refl high_is)
+      (ap (λ (n : ℕ). set v n (x % 16)) p) low_is
+      ∙ ap (λ (n : ℕ). sets o to (run (bits b) (k * 8) n 4)) two
+
+  pub pair_judged : (g h : Bool) → g ≡ inside 0 9 (run (bits b) (k * 8) (2 * j) 4) → h ≡ (leb (x / 16) 9 && leb (x % 16) 9) → (g && h) ≡ inside 0 9 (run (bits b) (k * 8) (2 * (j + 1)) 4)
+  pair_judged g h f w =
+      ap (λ (y : Bool). g && y) w
+      ∙ sym (and_assoc g (leb (x / 16) 9) (leb (x % 16) 9))
+      ∙ judged_more (bits b) (g && leb (x / 16) 9) (leb (x % 16) 9) 0 9 (k * 8) (2 * j + 1) 4 (x % 16) low_is
+      (judged_more (bits b) g (leb (x / 16) 9) 0 9 (k * 8) (2 * j) 4 (x / 16) high_is f (above (x / 16)))
+      (above (x % 16))
+      ∙ ap (λ (n : ℕ). inside 0 9 (run (bits b) (k * 8) n 4)) two
+    where
+      above : (y : ℕ) → leb y 9 ≡ (leb 0 y && leb y 9)
+      above y = sym (and_yes (leb y 9) (le-leb 0 y (omega arith)))
 
 -- ---- a row more
-pub next_row : (j w : ℕ) → (j + 1) * w ≡ j * w + w
-next_row j w = rw (add-one j) (suc-mul j w)
-
 pub strips_turn : (l o u v : List ℕ) (i w j to : ℕ) (f : ℕ → List ℕ) → o ≡ strips l i w j f → to ≡ i + j * w → u ≡ sets o to v → v ≡ f j → u ≡ strips l i w (j + 1) f
 unfolding strips
 strips_turn l o u v i w j to f e t g h = rw (add-one j) (g ∙ rw (e, t, h))
@@ -85,15 +88,31 @@ unfolding every
 every_turn g h j f t e u v = rw (add-one j) (u ∙ rw (e, v))
 
 -- ---- the piece of a row
-pub octet_piece : (b : List ℕ) (k s j u x : ℕ) → x < 256 → x ≡ get_or b u 0 → u ≡ k + j * s → x ∷ [] ≡ run (bits b) (k * 8 + j * (s * 8)) 1 8
+pub octet_piece : (b : List ℕ) (k s j x : ℕ) → x < 256 → x ≡ get_or b (k + j * s) 0 → x ∷ [] ≡ run (bits b) (k * 8 + j * (s * 8)) 1 8
 unfolding run
-octet_piece b k s j u x h e f =
-    let p : u * 8 ≡ k * 8 + j * (s * 8) = omega (arith, f, mul_assoc j s 8) in
-    ap (λ (y : ℕ). y ∷ []) (byte_at b u x h e ∙ ap (λ (q : ℕ). at (bits b) q 8) p)
+octet_piece b k s j x h e =
+    let p : (k + j * s) * 8 ≡ k * 8 + j * (s * 8) = omega (arith, mul_assoc j s 8) in
+    ap (λ (y : ℕ). y ∷ []) (byte_at b (k + j * s) x h e ∙ ap (λ (q : ℕ). at (bits b) q 8) p)
 
-pub single_piece : (l : List ℕ) (p q c w x : ℕ) → c ≡ 1 → q ≡ p → x ≡ at l q w → x ∷ [] ≡ run l p c w
+-- a run of one number is tested at once
+pub single_inside : (l : List ℕ) (lo hi p c w : ℕ) → c ≡ 1 → inside lo hi (run l p c w) ≡ (leb lo (at l p w) && leb (at l p w) hi)
 unfolding run
-single_piece l p q c w x e f g = rw (e, ← f, ← g)
+single_inside l lo hi p c w e = rw e (inside_one lo hi (at l p w))
+
+-- a test of every number is one of a range
+pub every_range : (n : ℕ) (f : ℕ → Bool) → every n f ≡ list_all f (range_with_len 0 n)
+unfolding every
+every_range zero f = refl
+every_range (suc n) f =
+    ap (λ (y : Bool). y && f n) (every_range n f)
+    ∙ ap (λ (y : Bool). list_all f (range_with_len 0 n) && y) (sym (and-true (f n)))
+    ∙ sym (list_all-append f (range_with_len 0 n) (n ∷ []))
+    ∙ ap (λ (m : ℕ). list_all f (range_with_len 0 n ++ (m ∷ []))) (omega arith)
+    ∙ ap (list_all f) (sym (range_more 0 n))
+  where
+    range_more : (a m : ℕ) → range_with_len a (suc m) ≡ range_with_len a m ++ ((a + m) ∷ [])
+    range_more a zero = let e : a + 0 ≡ a = omega arith in rw e
+    range_more a (suc m) = let e : a + 1 + m ≡ a + suc m = omega arith in ap (λ (r : List ℕ). a ∷ r) (range_more (a + 1) m ∙ rw e)
 
 -- digits that end with byte e: where they are odd one by itself, then two a byte
 pub digits_even : (l : List ℕ) (e c : ℕ) → c ≤ 2 * e → c % 2 ≡ 0 → run l ((e - c / 2) * 8) (2 * (c / 2)) 4 ≡ run l (e * 8 - c * 4) c 4
@@ -125,8 +144,8 @@ module _ (b : List ℕ) (e c x : ℕ) (h : c ≤ 2 * e) (i : c % 2 ≡ 1) (g : x
   pub odd_fine : (r : Bool) → x % 16 ≤ 9 → r ≡ inside 0 9 (run (bits b) ((e - c / 2) * 8) (2 * (c / 2)) 4) → r ≡ inside 0 9 (run (bits b) (e * 8 - c * 4) c 4)
   odd_fine r f k = k ∙ sym (and_yes _ (le-leb (x % 16) 9 f)) ∙ odd_first
 
-pub digits_place : (e c s j u : ℕ) → c ≤ 2 * e → u ≡ e + j * s → u * 8 - c * 4 ≡ e * 8 - c * 4 + j * (s * 8)
-digits_place e c s j u h f = omega (arith, mul_assoc j s 8)
+pub digits_place : (e c s j : ℕ) → c ≤ 2 * e → (e + j * s) * 8 - c * 4 ≡ e * 8 - c * 4 + j * (s * 8)
+digits_place e c s j h = omega (arith, mul_assoc j s 8)
 
 -- pieces that are empty
 pub strips_none : (n : ℕ) (f : ℕ → List ℕ) (l : List ℕ) (i w : ℕ) → ((r : ℕ) → f r ≡ []) → strips l i w n f ≡ l
@@ -214,3 +233,15 @@ four_bytes b k w x y z hw hx hy hz ew ex ey ez =
     let three : at l p 24 ≡ at l p 16 * 256 + at l (p + 16) 8 = at_parts l p 16 8 in
     let four : at l p 32 ≡ at l p 24 * 256 + at l (p + 24) 8 = at_parts l p 24 8 in
     omega (arith, a, c, d, e, two, three, four)
+
+-- the last bytes, as numbers of eight bits
+pub octets_last : (b : List ℕ) (k : ℕ) → Under 256 b → k ≤ length b → run (bits b) (8 * k) (length b - k) 8 ≡ drop k b
+octets_last b k u h =
+    let v = bits (take k b) in
+    let l = bits (drop k b) in
+    let e : bits b ≡ v ++ l = ap bits (sym (take-append-drop k b)) ∙ spread_append 8 (take k b) (drop k b) in
+    let p : 8 * k ≡ length v + 0 = omega (arith, length_spread 8 (take k b), length-take-le k b h) in
+    ap₂ (λ (r : List ℕ) (q : ℕ). run r q (length b - k) 8) e p
+    ∙ run_right v l 0 (length b - k) 8
+    ∙ ap (λ (n : ℕ). run l 0 n 8) (sym (length-drop k b))
+    ∙ run_spread 8 (drop k b) (under_drop 256 k b u)

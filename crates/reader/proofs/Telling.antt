@@ -2,13 +2,13 @@
 use mathlib.Core.Path.{◌≡◌, refl, sym, ap, ap₂, subst, ◌∙◌}
 use mathlib.Core.Bool.{Bool, true, false, not, cond, ◌&&◌, and-true}
 use mathlib.Core.List.{List, [], ◌++◌}
-use Prim.Native.Nat.{ℕ, zero, suc, ◌+◌, ◌-◌, ◌*◌, ◌<◌, ◌≤◌}
+use Prim.Native.Nat.{min, ℕ, zero, suc, ◌+◌, ◌-◌, ◌*◌, ◌<◌, ◌≤◌}
 use native.Mathlib.Omega.{arith}
 use lib.ListN.{length, drop}
 use lib.Seq.{sets}
 use lib.Dec.{eqb}
 use borrow.Author.Tests.{eqb-true, eqb-false, eq-eqb, ne_eqb}
-use Rattle.laws.specs.Bits.{at, run, bits}
+use Rattle.laws.specs.Bits.{run, bits}
 use Rattle.laws.proofs.Bits.{length_run}
 use Rattle.laws.specs.Refusals.{first}
 use Rattle.laws.proofs.Cases.{if_yes, if_no, or_yes, or_no}
@@ -22,7 +22,7 @@ use Rattle.packet.specs.Content.{content_of, numbers_in, no_such_day}
 use Rattle.packet.specs.Reading.{read_answer, opened, opened_by, refused_as, no_fields, fields_of, codes_in, kind_in, part_at, numbers_at, front_in, body_in, back_in, content_in, digits_in, codes_of, zeros, padded, has_entries, is_unknown, table_of, values_in, read_cases}
 use Rattle.packet.proofs.Column.{content_size_lem}
 use Rattle.packet.proofs.Refused.{not_opened}
-use Rattle.reader.specs.Due.{asked, passing, lesser, answer_by, Judged}
+use Rattle.reader.specs.Due.{asked, passing, answer_by, Judged}
 use Rattle.packet.specs.declared.RowLines.{RowLines}
 use Rattle.packet.specs.declared.Sizes.{Sizes}
 use Rattle.reader.specs.declared.Told.{Told}
@@ -92,7 +92,7 @@ module _ (f : Kind) (s : RowLines) (z : Sizes) (n k : ℕ) (b : List ℕ) (h : R
 
   pub packet_due : (u v d : ℕ) (good : Bool) → good ≡ inside 0 9 (run (bits b) ((length b - 64) * 8 - 12 * 4) 12 4)
       → Judged (λ (a : ℕ). fine a (times n code) (decode (times n code) (bits b) 24)) u → Judged (λ (a : ℕ). fine a (content_lines (row_of f) k) (decode (content_lines (row_of f) k) (bits b) (24 + 96 * n))) v
-      → d ≡ lesser (lesser u (cond good 255 25)) v → Judged (λ (a : ℕ). fine a (table_of b) (values_in b)) d
+      → d ≡ min (min u (cond good 255 25)) v → Judged (λ (a : ℕ). fine a (table_of b) (values_in b)) d
   packet_due u v d good g ju jv e =
       let m = length b - 77 - 12 * n in
       let p : (length b - 64) * 8 - 12 * 4 ≡ 24 + 96 * n + 8 * m + 32 = omega (arith, codes_there) in

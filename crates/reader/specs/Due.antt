@@ -1,5 +1,5 @@
 -- The least number that lines are due, as the functions under the packet reader find it (ours, between functions).
-use Rattle.std.specs.Prelude.{◌≡◌, Bool, true, false, cond, ◌||◌, ℕ, ◌<◌, eqb, ltb}
+use Rattle.std.specs.Prelude.{◌≡◌, Bool, true, false, cond, ◌||◌, ℕ, ◌<◌, eqb}
 use Rattle.format.specs.declared.Line.{Line}
 
 -- the numbers that a line of the table can be due (01, Numbers given back)
@@ -17,10 +17,6 @@ asks t = plain t || asked t.answer
 -- what a line's numbers pass that are as it says, or not
 abbrev pub passing : Line → Bool → ℕ → Bool
 passing t x k = cond (eqb t.answer k) x true
-
--- the smaller of two numbers
-abbrev pub lesser : ℕ → ℕ → ℕ
-lesser a b = cond (ltb b a) b a
 
 -- the answer where so much is due: it, or 27 for the day
 abbrev pub answer_by : ℕ → Bool → ℕ

@@ -26,16 +26,14 @@ pub struct Told {
 fn refused(a: u8) -> Told
     ensures { result ≡ told_of (refused_as a) }
 {
-    let y = parts::zeros12();
-    let s = parts::zeros64();
     Told {
         answer: a,
         typenumber: 0,
         codes: 0,
         content: Content::Raw,
         time: 0,
-        certificate: y,
-        signature: s,
+        certificate: parts::zeros(),
+        signature: parts::zeros(),
     }
 }
 
@@ -44,17 +42,14 @@ fn accepted(b: &[u8], n: usize, content: Content, certificate: [u8; 12]) -> Told
     requires { (77 ≤ length b.now) × (length b.now ≤ 250) }
     ensures { result ≡ tells b.now n content certificate }
 {
-    let t = parts::type_in(b);
-    let x = parts::time(b);
-    let signature = parts::signature(b);
     Told {
         answer: 0,
-        typenumber: t,
+        typenumber: parts::type_in(b),
         codes: n,
-        content: content,
-        time: x,
-        certificate: certificate,
-        signature: signature,
+        content,
+        time: parts::time(b),
+        certificate,
+        signature: parts::signature(b),
     }
 }
 
@@ -75,14 +70,13 @@ fn lines_told(
 {
     let first = parts::take_codes(b, n, codes);
     let c = parts::take_content(f, s, z, k, b, 24 + 96 * n, digits, entries);
-    let mut certificate = parts::zeros12();
+    let mut certificate = parts::zeros();
     let good = columns::take_digits(b, b.len() - 64, 12, &mut certificate, 0);
-    let content = c.content;
-    let a = refusals::lines_answer(first, good, c.due, packet::no_such_day(content));
+    let a = refusals::lines_answer(first, good, c.due, packet::no_such_day(c.content));
     if a != 0 {
         return refused(a);
     }
-    accepted(b, n, content, certificate)
+    accepted(b, n, c.content, certificate)
 }
 
 // What a packet says, and its arrays, which are of no use where it is refused.
@@ -95,14 +89,13 @@ fn filled(b: &[u8], codes: &mut [u8], entries: &mut [u8], digits: &mut [u8]) -> 
     }
     let f = parts::kind(b);
     let s = table::row_of(f);
-    let counting = s.counting;
-    if refusals::unknown(counting) {
+    if refusals::unknown(s.counting) {
         return refused(23);
     }
     let z = table::sizes_of(f);
     let n = parts::codes_count(b);
     let m = parts::content_size(b);
-    let k = parts::count_at(counting, b, 16 + 96 * n + z.lead, m);
+    let k = parts::count_at(s.counting, b, 16 + 96 * n + z.lead, m);
     if refusals::length_bad(z, k, m) {
         return refused(26);
     }
@@ -124,9 +117,9 @@ pub fn read_to(
     let c = *codes;
     let e = *entries;
     let d = *digits;
-    *codes = parts::zeros322();
-    *entries = parts::zeros272();
-    *digits = parts::zeros35();
+    *codes = parts::zeros();
+    *entries = parts::zeros();
+    *digits = parts::zeros();
     let t = filled(packet, codes, entries, digits);
     if t.answer != 0 {
         *codes = c;
@@ -140,26 +133,31 @@ pub fn read_to(
 pub fn read(packet: &[u8]) -> Opened
     ensures { result ≡ opened packet.now }
 {
-    let mut codes = parts::zeros322();
-    let mut entries = parts::zeros272();
-    let mut digits = parts::zeros35();
-    let t = read_to(packet, &mut codes, &mut entries, &mut digits);
-    let content = t.content;
-    let certificate = t.certificate;
-    let signature = t.signature;
+    let mut codes = parts::zeros();
+    let mut entries = parts::zeros();
+    let mut digits = parts::zeros();
+    let Told {
+        answer,
+        typenumber,
+        codes: n,
+        content,
+        time,
+        certificate,
+        signature,
+    } = read_to(packet, &mut codes, &mut entries, &mut digits);
     Opened {
-        answer: t.answer,
+        answer,
         fields: Fields {
-            typenumber: t.typenumber,
-            codes: t.codes,
-            content: content,
-            digits: digits,
-            time: t.time,
-            certificate: certificate,
-            signature: signature,
+            typenumber,
+            codes: n,
+            content,
+            digits,
+            time,
+            certificate,
+            signature,
         },
-        codes: codes,
-        entries: entries,
+        codes,
+        entries,
     }
 }
 
@@ -167,8 +165,7 @@ pub fn read(packet: &[u8]) -> Opened
 fn answer(packet: &[u8]) -> u8
     ensures { result ≡ read_answer packet.now }
 {
-    let o = read(packet);
-    o.answer
+    read(packet).answer
 }
 
 // The number that goes with the text: the reader's, and 27 for a type other than 15.
@@ -191,7 +188,7 @@ pub fn text(packet: &[u8]) -> &[u8]
 {
     if text_answer(packet) == 0 {
         let from = 3 + 12 * parts::codes_count(packet) + parts::lead(packet) / 8;
-        let end = from + parts::text_length(packet);
+        let end = from + parts::count(packet);
         &packet[from..end]
     } else {
         &packet[0..0]

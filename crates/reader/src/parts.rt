@@ -13,41 +13,10 @@ ghost use Rattle.reader.specs.Taking.{Entries, Holding, Beside};
 use crate::columns;
 use packet::{Content, Counting, Kind, Lines, RowLines, Sizes};
 
-// a - b, and 0 where b is above a.
-pub(crate) fn minus(a: usize, b: usize) -> usize
-    ensures { result ≡ a - b }
+pub(crate) fn zeros<const N: usize>() -> [u8; N]
+    ensures { result ≡ zeros N }
 {
-    if a < b { 0 } else { a - b }
-}
-
-pub(crate) fn zeros35() -> [u8; 35]
-    ensures { result ≡ zeros 35 }
-{
-    [0u8; 35]
-}
-
-pub(crate) fn zeros12() -> [u8; 12]
-    ensures { result ≡ zeros 12 }
-{
-    [0u8; 12]
-}
-
-pub(crate) fn zeros64() -> [u8; 64]
-    ensures { result ≡ zeros 64 }
-{
-    [0u8; 64]
-}
-
-pub(crate) fn zeros322() -> [u8; 322]
-    ensures { result ≡ zeros 322 }
-{
-    [0u8; 322]
-}
-
-pub(crate) fn zeros272() -> [u8; 272]
-    ensures { result ≡ zeros 272 }
-{
-    [0u8; 272]
+    [0; N]
 }
 
 // ---- heading
@@ -68,7 +37,7 @@ pub(crate) fn type_in(b: &[u8]) -> u8
 pub(crate) fn codes_count(b: &[u8]) -> usize
     ensures { (result ≡ codes_in b.now) × (result < 256) }
 {
-    small(b, 16, 8) as usize
+    usize::from(small(b, 16, 8))
 }
 
 pub(crate) fn kind(b: &[u8]) -> Kind
@@ -84,10 +53,9 @@ pub(crate) fn count_at(counting: Counting, b: &[u8], p: usize, m: usize) -> usiz
     ensures { result ≡ count_by counting (at (bits b.now) p 8) m }
 {
     match counting {
-        Counting::Fixed => 0,
-        Counting::Counted => small(b, p, 8) as usize,
+        Counting::Counted => usize::from(small(b, p, 8)),
         Counting::Raw => m,
-        Counting::Unknown => 0,
+        Counting::Fixed | Counting::Unknown => 0,
     }
 }
 
@@ -95,37 +63,23 @@ pub(crate) fn count_at(counting: Counting, b: &[u8], p: usize, m: usize) -> usiz
 pub(crate) fn content_size(b: &[u8]) -> usize
     ensures { result ≡ content_size b.now }
 {
-    minus(minus(b.len(), 77), 12 * codes_count(b))
+    b.len()
+        .saturating_sub(77)
+        .saturating_sub(12 * codes_count(b))
 }
 
 pub(crate) fn count(b: &[u8]) -> usize
     ensures { result ≡ count_of b.now }
 {
     let f = kind(b);
-    let s = table::row_of(f);
-    let z = table::sizes_of(f);
-    let counting = s.counting;
-    count_at(
-        counting,
-        b,
-        16 + 96 * codes_count(b) + z.lead,
-        content_size(b),
-    )
-}
-
-// The bytes of the text: as many as its length says, whatever they are.
-pub(crate) fn text_length(b: &[u8]) -> usize
-    ensures { result ≡ count_of b.now }
-{
-    let whole = count(b);
-    whole
+    let at = 16 + 96 * codes_count(b) + table::sizes_of(f).lead;
+    count_at(table::row_of(f).counting, b, at, content_size(b))
 }
 
 pub(crate) fn lead(b: &[u8]) -> usize
     ensures { (result ≡ part_at (row_of (kind_in b.now))) × (result ≤ 160) }
 {
-    let z = table::sizes_of(kind(b));
-    z.lead
+    table::sizes_of(kind(b)).lead
 }
 
 // As many bytes as the content has, and none where it has entries.
@@ -147,25 +101,16 @@ pub(crate) fn take_codes(b: &[u8], n: usize, out: &mut [u8]) -> u8
 {
     let mut ones = true;
     let mut good = true;
-    let mut k: usize = 3;
-    let mut i: usize = 0;
-    let mut j: usize = 0;
-    while j < n {
-        if b[k] < 240 {
-            ones = false;
-        }
-        let here = columns::take_digits(b, k + 12, 23, out, i);
-        if !here {
-            good = false;
-        }
-        k += 12;
-        i += 23;
-        j += 1;
+    for j in 0..n {
+        ones &= b[3 + 12 * j] >= 240;
+        good &= columns::take_digits(b, 15 + 12 * j, 23, out, 23 * j);
     }
-    if ones {
-        if good { 255 } else { 25 }
-    } else {
+    if !ones {
         24
+    } else if !good {
+        25
+    } else {
+        255
     }
 }
 
@@ -185,8 +130,7 @@ fn beside(before: Lines, own: usize) -> Lines
     Lines {
         from: before.from + own,
         m: before.m - own,
-        bits: before.bits,
-        numbers: before.numbers,
+        ..before
     }
 }
 
@@ -216,20 +160,16 @@ pub(crate) fn take_content(
     requires { Holding f s z k (length b.now) q digits.old entries.old }
     ensures { (result.content ≡ content_of f (numbers_at (row_of f).before b.now q) k) × Judged (λ (a : ℕ). fine a (content_lines (row_of f) k) (decode (content_lines (row_of f) k) (bits b.now) q)) result.due × Beside f k b.now q digits.new entries.new }
 {
-    let before = s.before;
-    let each = s.each;
-    let after = s.after;
-    let mut numbers = [0u32; 6];
-    let own = columns::take_own(before.from, s.own, b, q, &mut numbers);
-    let first = columns::take_rows(beside(before, s.own), 1, b, own.place, digits, 0);
+    let mut numbers = [0; 6];
+    let own = columns::take_own(s.before.from, s.own, b, q, &mut numbers);
+    let first = columns::take_rows(beside(s.before, s.own), 1, b, own.place, digits, 0);
     let p = q + z.lead;
-    let rows = take_entries(each, k, b, p, entries);
-    let last = columns::take_rows(after, 1, b, p + k * z.each, digits, z.first - own.numbers);
+    let rows = take_entries(s.each, k, b, p, entries);
+    let last = columns::take_rows(s.after, 1, b, p + k * z.each, digits, z.first - own.numbers);
     let content = packet::named(f, &numbers, k);
-    let d = columns::least(columns::least(own.due, first), columns::least(rows, last));
     Held {
-        due: d,
-        content: content,
+        due: own.due.min(first).min(rows.min(last)),
+        content,
     }
 }
 
@@ -240,19 +180,14 @@ pub(crate) fn time(b: &[u8]) -> u32
     ensures { result ≡ at (bits b.now) (8 * (length b.now - 74)) 32 }
 {
     let k = b.len() - 74;
-    b[k] as u32 * 16777216 + b[k + 1] as u32 * 65536 + b[k + 2] as u32 * 256 + b[k + 3] as u32
+    u32::from_be_bytes([b[k], b[k + 1], b[k + 2], b[k + 3]])
 }
 
 pub(crate) fn signature(b: &[u8]) -> [u8; 64]
     requires { (64 ≤ length b.now) × (length b.now ≤ 250) }
     ensures { result ≡ run (bits b.now) (8 * (length b.now - 64)) 64 8 }
 {
-    let from = b.len() - 64;
-    let mut d = zeros64();
-    let mut i: usize = 0;
-    while i < 64 {
-        d[i] = b[from + i];
-        i += 1;
-    }
+    let mut d = [0; 64];
+    d.copy_from_slice(&b[b.len() - 64..]);
     d
 }

@@ -1,9 +1,9 @@
 // What is wrong with a packet: the answers 20, 23, 26, 24, 25 and 27, in that order.
-ghost use Rattle.std.specs.Prelude.{◌≡◌, not, cond, ◌+◌, ◌*◌, ◌<◌, ◌≤◌, eqb};
+ghost use Rattle.std.specs.Prelude.{◌≡◌, not, cond, min, ◌+◌, ◌*◌, ◌<◌, ◌≤◌, eqb};
 ghost use Rattle.packet.specs.Reading.{unknown_by, size_bad};
-ghost use Rattle.reader.specs.Due.{lesser, answer_by};
+ghost use Rattle.reader.specs.Due.{answer_by};
 
-use crate::{columns, parts};
+use crate::parts;
 use packet::{Counting, Sizes};
 
 // 20: not 77 to 250 bytes, or not the length field and 2, or under 77 and 12 a code.
@@ -11,13 +11,7 @@ pub(crate) fn size_bad(b: &[u8]) -> bool
     ensures { result ≡ size_bad b.now }
 {
     let p = b.len();
-    if p < 77 {
-        return true;
-    }
-    if p > 250 {
-        return true;
-    }
-    if p != size::packet_size(b) {
+    if p < 77 || p > 250 || p != size::packet_size(b) {
         return true;
     }
     p < 77 + 12 * parts::codes_count(b)
@@ -27,12 +21,7 @@ pub(crate) fn size_bad(b: &[u8]) -> bool
 pub(crate) fn unknown(counting: Counting) -> bool
     ensures { result ≡ unknown_by counting }
 {
-    match counting {
-        Counting::Fixed => false,
-        Counting::Counted => false,
-        Counting::Raw => false,
-        Counting::Unknown => true,
-    }
+    matches!(counting, Counting::Unknown)
 }
 
 // 26: the lines of a content whose row stands k times are not as long as its m bytes.
@@ -52,12 +41,11 @@ fn digits_due(good: bool) -> u8
 
 // And then 24, 25 or 27: what the lines of codes, certificate number and content are due, and the day.
 pub(crate) fn lines_answer(codes: u8, certificate: bool, content: u8, day: bool) -> u8
-    ensures { result ≡ answer_by (lesser (lesser codes (cond certificate 255 25)) content) day }
+    ensures { result ≡ answer_by (min (min codes (cond certificate 255 25)) content) day }
 {
-    let frame = columns::least(codes, digits_due(certificate));
-    let d = columns::least(frame, content);
-    if d != 255 {
-        return d;
+    let due = codes.min(digits_due(certificate)).min(content);
+    if due != 255 {
+        return due;
     }
     if day { 27 } else { 0 }
 }

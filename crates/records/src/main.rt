@@ -10,16 +10,12 @@ fn say(rt: &impl Print, answer: u8) -> io::Result<()> {
     println!(rt; "{answer}")
 }
 
-// The lines of n records.
-fn print(rt: &impl Print, shelf: &[u8], n: usize) -> io::Result<()> {
-    let mut at: usize = 0;
-    let mut i: usize = 0;
-    while i < n {
+// The lines of the records.
+fn print(rt: &impl Print, shelf: &[u8]) -> io::Result<()> {
+    for record in shelf.chunks_exact(256) {
         let mut text = [0u8; 510];
-        let written = shelf::line(octets::part(shelf, at, 256), &mut text);
+        let written = shelf::line(record, &mut text);
         rt.write_all(octets::part(&text, 0, written.length))?;
-        at = at.wrapping_add(256);
-        i += 1;
     }
     Ok(())
 }
@@ -29,7 +25,7 @@ fn show(rt: &impl Print, shelf: &[u8]) -> io::Result<()> {
     if answer != 0 {
         return say(rt, answer);
     }
-    print(rt, shelf, shelf.len() / 256)
+    print(rt, shelf)
 }
 
 // Room for 4,096 records.

@@ -3,10 +3,12 @@ use mathlib.Core.Path.{◌≡◌, refl, sym, ap, ◌∙◌}
 use mathlib.Core.Bool.{cond}
 use Prim.Native.Nat.{ℕ}
 use native.Mathlib.Omega.{arith}
+use borrow.Author.Rules.{rules}
 use lib.Dec.{eqb}
+use Rattle.std.specs.Prelude.{Result, Ok, Err, IsOk}
 use Rattle.refusal.specs.declared.Refusal.{Refusal}
 use Rattle.refusal.specs.declared.Refusal.TheVariants as refusal
-use Rattle.refusal.specs.Refusal.{number_of}
+use Rattle.refusal.specs.Refusal.{number_of, answer_of}
 
 -- a refusal is not told as a value is
 pub some_number : (e : Refusal) → number_of e ≡ 0 → ⊥
@@ -17,6 +19,7 @@ some_number refusal.Numbering z = omega arith
 some_number refusal.PacketSize z = omega arith
 some_number refusal.Length z = omega arith
 some_number refusal.Range z = omega arith
+some_number refusal.State z = omega arith
 some_number refusal.LoneByte z = omega arith
 some_number refusal.Parts z = omega arith
 some_number refusal.MessageNumber z = omega arith
@@ -24,6 +27,8 @@ some_number refusal.Story z = omega arith
 some_number refusal.Shelf z = omega arith
 some_number refusal.Record z = omega arith
 some_number refusal.FullShelf z = omega arith
+some_number refusal.Symbol z = omega arith
+some_number refusal.Sample z = omega arith
 
 -- each number leads back to its refusal
 abbrev refusal_of : ℕ → Refusal
@@ -35,13 +40,16 @@ refusal_of n =
     (cond (eqb n 20) refusal.PacketSize
     (cond (eqb n 26) refusal.Length
     (cond (eqb n 27) refusal.Range
+    (cond (eqb n 28) refusal.State
     (cond (eqb n 30) refusal.LoneByte
     (cond (eqb n 31) refusal.Parts
     (cond (eqb n 32) refusal.MessageNumber
     (cond (eqb n 33) refusal.Story
     (cond (eqb n 34) refusal.Shelf
     (cond (eqb n 35) refusal.Record
-    refusal.FullShelf))))))))))))
+    (cond (eqb n 36) refusal.FullShelf
+    (cond (eqb n 37) refusal.Symbol
+    refusal.Sample)))))))))))))))
 
 back : (e : Refusal) → refusal_of (number_of e) ≡ e
 back refusal.Room = refl
@@ -51,6 +59,7 @@ back refusal.Numbering = refl
 back refusal.PacketSize = refl
 back refusal.Length = refl
 back refusal.Range = refl
+back refusal.State = refl
 back refusal.LoneByte = refl
 back refusal.Parts = refl
 back refusal.MessageNumber = refl
@@ -58,7 +67,14 @@ back refusal.Story = refl
 back refusal.Shelf = refl
 back refusal.Record = refl
 back refusal.FullShelf = refl
+back refusal.Symbol = refl
+back refusal.Sample = refl
 
 -- so an answer names one refusal
 pub same_number : (d e : Refusal) → number_of d ≡ number_of e → d ≡ e
 same_number d e h = sym (back d) ∙ ap refusal_of h ∙ back e
+
+-- what is told by 0 is a value
+pub value_told : {A : Type 0} (r : Result A Refusal) → answer_of r ≡ 0 → IsOk r
+value_told (Ok value) z = search rules
+value_told (Err e) z = absurd (some_number e z)

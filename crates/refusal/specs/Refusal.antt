@@ -1,4 +1,4 @@
--- The refusals and their numbers (paper 01, "Numbers given back"; 02, K1, K6), and the number that a result tells.
+-- The refusals and their numbers (paper 01, "Numbers given back"; 02, K1, K6, K12), and the number that a result tells.
 use Rattle.std.specs.Prelude.{ℕ, Result, Ok, Err}
 use Rattle.refusal.specs.declared.Refusal.{Refusal}
 use Rattle.refusal.specs.declared.Refusal.TheVariants as refusal
@@ -12,6 +12,7 @@ number_of refusal.Numbering = 14
 number_of refusal.PacketSize = 20
 number_of refusal.Length = 26
 number_of refusal.Range = 27
+number_of refusal.State = 28
 number_of refusal.LoneByte = 30
 number_of refusal.Parts = 31
 number_of refusal.MessageNumber = 32
@@ -19,6 +20,8 @@ number_of refusal.Story = 33
 number_of refusal.Shelf = 34
 number_of refusal.Record = 35
 number_of refusal.FullShelf = 36
+number_of refusal.Symbol = 37
+number_of refusal.Sample = 38
 
 module _ {A : Type 0} where
   -- the number given back: 0 beside a value (01, Numbers given back)

@@ -24,6 +24,8 @@ pub enum Refusal {
     Length,
     // A field is outside its range.
     Range,
+    // A record of state is none that could have come about.
+    State,
     // A text's last byte begins a character of two.
     LoneByte,
     // A text is longer than nine parts.
@@ -38,6 +40,10 @@ pub enum Refusal {
     Record,
     // A shelf is full.
     FullShelf,
+    // A symbol is not of 32 numbers.
+    Symbol,
+    // A number is no sample.
+    Sample,
 }
 
 impl Refusal {
@@ -53,6 +59,7 @@ impl Refusal {
             Refusal::PacketSize => 20,
             Refusal::Length => 26,
             Refusal::Range => 27,
+            Refusal::State => 28,
             Refusal::LoneByte => 30,
             Refusal::Parts => 31,
             Refusal::MessageNumber => 32,
@@ -60,6 +67,8 @@ impl Refusal {
             Refusal::Shelf => 34,
             Refusal::Record => 35,
             Refusal::FullShelf => 36,
+            Refusal::Symbol => 37,
+            Refusal::Sample => 38,
         }
     }
 }

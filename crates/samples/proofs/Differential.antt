@@ -18,7 +18,7 @@ use Rattle.samples.specs.Whole.{whole_of, of_whole}
 use Rattle.samples.specs.Symbol.{is_sample, is_part, is_pair, total, part, product, verdict_of, pair_of, fresh_pair, taken, decided}
 use Rattle.samples.specs.Coding.{coded, turned, symbol_at, wave_of, sent, Sendable, strength, told, ComeBack, answers, verdicts, bit_of}
 use Rattle.samples.specs.declared.Pair.{Pair}
-use Rattle.samples.specs.declared.Decided.{Decided}
+use Rattle.samples.specs.Symbol.{Decided}
 use Rattle.samples.specs.declared.Verdict.TheVariants.{Zero, One, Undecided}
 use Rattle.samples.proofs.Arithmetic.{of_means, abs_neg, parts_between, between}
 use Rattle.samples.proofs.Exact.{fresh_good}

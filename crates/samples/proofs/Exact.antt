@@ -16,7 +16,7 @@ use Rattle.samples.specs.Whole.{is_whole, whole_of, of_whole, within}
 use Rattle.samples.specs.Symbol.{is_part, is_sample, is_pair, total, part, product, verdict_of, pair_of, fresh_pair, refusal, taken, decide_answer, decided}
 use Rattle.samples.specs.Unrounded.{Is, float_sum, float_part, float_product, carried, Unrounded}
 use Rattle.samples.specs.declared.Pair.{Pair}
-use Rattle.samples.specs.declared.Decided.{Decided}
+use Rattle.samples.specs.Symbol.{Decided}
 use Rattle.samples.proofs.Arithmetic.{of_means, between_parts, mul_means, whole_means}
 use Rattle.samples.proofs.Answers.{answer_is}
 use Rattle.samples.proofs.Steps.{holds, passed_all, is_taken, means_back, within_means, total_abs, total_more, part_is, part_means, part_good, part_between, part_size, pair_part, dot_is, product_small}

@@ -22,7 +22,7 @@ use Rattle.samples.specs.Symbol.{is_sample, is_part, is_pair, total, part, produ
 use Rattle.samples.specs.declared.Pair.{Pair}
 use Rattle.samples.specs.declared.Verdict.{Verdict}
 use Rattle.samples.specs.declared.Verdict.TheVariants.{Zero, One, Undecided}
-use Rattle.samples.specs.declared.Decided.{Decided}
+use Rattle.samples.specs.Symbol.{Decided}
 
 -- ---- small things
 pub holds : {b : Bool} → b ≡ true → T b

@@ -1,5 +1,5 @@
 -- From samples to bits, over the whole numbers (paper 02, K12).
-use Rattle.std.specs.Prelude.{ℕ, zero, suc, ◌+◌, ◌*◌, Bool, cond, not, ◌&&◌, List, [], ◌∷◌, length, get_or, eqb, ℤ, pos, negsuc, ◌+ℤ◌, ◌-ℤ◌, ◌*ℤ◌, Float}
+use Rattle.std.specs.Prelude.{Result, Ok, Err, ℕ, zero, suc, ◌+◌, ◌*◌, Bool, cond, not, ◌&&◌, List, [], ◌∷◌, length, get_or, eqb, ℤ, pos, negsuc, ◌+ℤ◌, ◌-ℤ◌, ◌*ℤ◌, Float}
 use Rattle.std.specs.Float.{nan}
 use Rattle.laws.specs.Scan.{all}
 use Rattle.laws.specs.Refusals.{Case, first}
@@ -7,7 +7,9 @@ use Rattle.samples.specs.Whole.{whole_of, of_whole, within}
 use Rattle.samples.specs.declared.Pair.{Pair}
 use Rattle.samples.specs.declared.Verdict.{Verdict}
 use Rattle.samples.specs.declared.Verdict.TheVariants.{Zero, One, Undecided}
-use Rattle.samples.specs.declared.Decided.{Decided}
+use Rattle.refusal.specs.declared.Refusal.{Refusal}
+use Rattle.refusal.specs.Refusal.{number_of}
+use Rattle.samples.specs.declared.Decided.{Decided as Given}
 
 -- a whole number from -32768 to 32767
 abbrev pub is_sample : Float → Bool
@@ -53,9 +55,20 @@ decide_cases state xs = (not (is_pair state), 28) ∷ (not (eqb (length xs) 32),
 unfoldable pub decide_answer : Pair → List Float → ℕ
 decide_answer state xs = first (decide_cases state xs)
 
+-- a number given back, a verdict and a state
+pub record Decided : Type 0 where
+  pub answer : ℕ
+  pub verdict : Verdict
+  pub state : Pair
+
 -- refused: the state stays, and the verdict is undecided with plus zero
 abbrev pub refusal : ℕ → Pair → Decided
 refusal n state = record { answer = n; verdict = Undecided (of_whole (pos 0)); state = state }
+
+-- what a result tells, where it was asked with a state
+abbrev pub told : Pair → Result Given Refusal → Decided
+told state (Ok d) = record { answer = 0; verdict = d.verdict; state = d.state }
+told state (Err e) = refusal (number_of e) state
 
 -- taken: the symbol's pair is the next state, and its product with the previous one decides
 abbrev pub taken : Pair → List Float → Decided

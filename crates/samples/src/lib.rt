@@ -5,9 +5,12 @@ ghost use Rattle.std.specs.Prelude.{◌≡◌, ◌+◌, ◌≤◌, ◌<◌, leng
 ghost use Rattle.std.specs.Float.Ieee.{of_bits};
 ghost use Rattle.std.specs.Float.{binary64};
 ghost use Rattle.laws.specs.Scan.{all};
+ghost use Rattle.refusal.specs.Refusal.{answer_of};
 ghost use Rattle.samples.specs.Whole.{is_whole, whole_of, of_whole, within};
 ghost use Rattle.samples.specs.Numbers.{word_at, number_at};
-ghost use Rattle.samples.specs.Symbol.{is_sample, is_part, is_pair, total, part, product, verdict_of, fresh_pair, refusal, decide_answer, decided};
+ghost use Rattle.samples.specs.Symbol.{is_sample, is_part, is_pair, total, part, product, verdict_of, fresh_pair, told, decide_answer, decided};
+
+use refusal::Refusal;
 
 // The sum of a symbol's first eight samples less that of its last eight, in phase and in quadrature. The previous symbol's is the state.
 #[repr(C)]
@@ -25,9 +28,9 @@ pub enum Verdict {
     Undecided(f64),
 }
 
+// What a symbol gave: its verdict, and its pair, which is the next state.
 #[derive(Clone, Copy)]
 pub struct Decided {
-    pub answer: u8,
     pub verdict: Verdict,
     pub state: Pair,
 }
@@ -66,14 +69,7 @@ fn is_part(x: f64) -> bool
 fn are_samples(symbol: &[f64]) -> bool
     ensures { result ≡ all is_sample symbol.now }
 {
-    let mut i = 0usize;
-    while i < symbol.len() {
-        if !is_sample(symbol[i]) {
-            return false;
-        }
-        i += 1;
-    }
-    true
+    symbol.iter().all(|x| is_sample(*x))
 }
 
 // The sum of eight samples, every second from `from` on.
@@ -83,10 +79,8 @@ fn sum_eight(symbol: &[f64], from: usize) -> f64
     ensures { result ≡ of_whole (total symbol.now from 8) }
 {
     let mut sum = 0.0;
-    let mut k = 0usize;
-    while k < 8 {
+    for k in 0..8 {
         sum = sum + symbol[from + 2 * k];
-        k += 1;
     }
     sum
 }
@@ -125,34 +119,23 @@ fn verdict_of(product: f64) -> Verdict
     Verdict::Undecided(0.0)
 }
 
-fn refused(answer: u8, state: Pair) -> Decided
-    ensures { result ≡ refusal answer state }
-{
-    let v = Verdict::Undecided(0.0);
-    Decided {
-        answer,
-        verdict: v,
-        state,
-    }
-}
-
-// The first refusal that is due, or 0.
-fn answer_for(state: Pair, symbol: &[f64]) -> u8
-    ensures { result ≡ decide_answer state symbol.now }
+// Whether a symbol can be decided behind the state, and the first refusal that is due where it can't.
+fn judge(state: Pair, symbol: &[f64]) -> Result<(), Refusal>
+    ensures { answer_of result ≡ decide_answer state symbol.now }
 {
     if !is_part(state.inphase) {
-        return 28;
+        return Err(Refusal::State);
     }
     if !is_part(state.quadrature) {
-        return 28;
+        return Err(Refusal::State);
     }
     if symbol.len() != 32 {
-        return 37;
+        return Err(Refusal::Symbol);
     }
     if !are_samples(symbol) {
-        return 38;
+        return Err(Refusal::Sample);
     }
-    0
+    Ok(())
 }
 
 // The state before the first symbol.
@@ -166,26 +149,19 @@ pub fn fresh() -> Pair
 }
 
 // Decides a symbol by the pair before it; its own pair is the next state.
-pub fn decide(state: Pair, symbol: &[f64]) -> Decided
-    ensures { result ≡ decided state symbol.now }
+pub fn decide(state: Pair, symbol: &[f64]) -> Result<Decided, Refusal>
+    ensures { told state result ≡ decided state symbol.now }
 {
-    let answer = answer_for(state, symbol);
-    if answer != 0 {
-        return refused(answer, state);
-    }
-    let i = difference(symbol, 0);
-    let q = difference(symbol, 1);
+    judge(state, symbol)?;
     let pair = Pair {
-        inphase: i,
-        quadrature: q,
+        inphase: difference(symbol, 0),
+        quadrature: difference(symbol, 1),
     };
-    let product = dot(state, pair);
-    let verdict = verdict_of(product);
-    Decided {
-        answer: 0,
+    let verdict = verdict_of(dot(state, pair));
+    Ok(Decided {
         verdict,
         state: pair,
-    }
+    })
 }
 
 fn wide(b: u8) -> u64
@@ -215,10 +191,8 @@ fn word_at(bytes: &[u8], at: usize) -> u64
     ensures { result ≡ word_at bytes.now at 8 }
 {
     let mut n = 0u64;
-    let mut k = 0usize;
-    while k < 8 {
+    for k in 0..8 {
         n = n * 256 + byte(bytes, at, k);
-        k += 1;
     }
     n
 }

@@ -24,11 +24,11 @@ fn story(b: &[u8]) -> Story {
     format::fields(b, 440, 64, 8, &mut signature, 0);
     Story {
         kind: octets::byte(b, 2),
-        digits: digits,
+        digits,
         codes: octets::byte(b, 3) as usize,
         time: format::field(b, 312, 32),
-        certificate: certificate,
-        signature: signature,
+        certificate,
+        signature,
     }
 }
 
@@ -40,9 +40,13 @@ fn bytes_of(frames: usize) -> usize {
 // Puts a packet on air and writes its bytes; none where it is refused. The answer.
 fn put(rt: &impl Print, packet: &[u8], level: u8, version: u8) -> io::Result<u8> {
     let mut out = [0u8; 819];
-    let aired = air::on_air(packet, level, version, &mut out);
-    rt.write_all(octets::part(&out, 0, bytes_of(aired.frames)))?;
-    Ok(aired.answer)
+    match air::on_air(packet, level, version, &mut out) {
+        Ok(frames) => {
+            rt.write_all(octets::part(&out, 0, bytes_of(frames)))?;
+            Ok(0)
+        }
+        Err(refusal) => Ok(refusal.number()),
+    }
 }
 
 fn say(rt: &impl Print, answer: u8, parts: usize, last: usize) -> io::Result<()> {
@@ -54,8 +58,7 @@ fn put_all(rt: &impl Print, packets: &[u8], parts: usize, level: u8, first: u8) 
     let mut version = first;
     let mut at: usize = 0;
     let mut last: usize = 0;
-    let mut k: usize = 0;
-    while k < parts {
+    for _ in 0..parts {
         last = size::packet_size(octets::part(packets, at, 2));
         let answer = put(rt, octets::part(packets, at, last), level, version)?;
         if answer != 0 {
@@ -63,7 +66,6 @@ fn put_all(rt: &impl Print, packets: &[u8], parts: usize, level: u8, first: u8) 
         }
         version = (version % 32 + 1) % 32;
         at = at.wrapping_add(last);
-        k += 1;
     }
     say(rt, 0, parts, last)
 }

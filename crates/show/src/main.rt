@@ -8,22 +8,11 @@ use receiver::Receiver;
 use std::io;
 use std::io::Read;
 
-// The receiver and the board so far, and whether the input has ended.
-#[derive(Clone, Copy)]
+// The receiver and the board so far.
+#[derive(Drop)]
 struct Hearing {
     receiver: Receiver,
     board: Board,
-    ended: bool,
-}
-
-fn begin() -> Hearing {
-    let r = receiver::fresh();
-    let b = board::quiet();
-    Hearing {
-        receiver: r,
-        board: b,
-        ended: false,
-    }
 }
 
 // The text that is shown, at most 1341 bytes, and what is said of it.
@@ -35,81 +24,73 @@ fn show(rt: &impl Print, level: u8, parts: u8, number: &[u8], text: &[u8]) -> io
     rt.write_all(text)
 }
 
-fn hear(rt: &impl Print, b: Board, frame: &[u8]) -> io::Result<Board> {
-    let mut out = [0u8; 1341];
-    let heard = board::hear(b, frame, &mut out);
-    rt.write_all(&[heard.answer])?;
-    if heard.answer == 1 {
-        let number = heard.number;
+impl Hearing {
+    fn begin() -> Hearing {
+        Hearing {
+            receiver: receiver::fresh(),
+            board: board::quiet(),
+        }
+    }
+
+    fn hear(&mut self, rt: &impl Print, frame: &[u8]) -> io::Result<()> {
+        let mut out = [0u8; 1341];
+        let heard = board::hear(self.board, frame, &mut out);
+        self.board = heard.board;
+        rt.write_all(&[heard.answer])?;
+        if heard.answer != 1 {
+            return Ok(());
+        }
         show(
             rt,
             heard.level,
             heard.parts,
-            &number,
+            &heard.number,
             octets::part(&out, 0, heard.length),
-        )?;
+        )
     }
-    Ok(heard.board)
-}
 
-// The first n frames of the receiver's output, in order.
-fn hear_all(rt: &impl Print, b: Board, out: &[u8], n: usize) -> io::Result<Board> {
-    let mut now = b;
-    let mut k: usize = 0;
-    let mut at: usize = 0;
-    while k < n {
-        now = hear(rt, now, octets::part(out, at, 8))?;
-        at = at.wrapping_add(8);
-        k += 1;
-    }
-    Ok(now)
-}
-
-// Air bytes, as many as are there; none is the input's end.
-fn take_air(rt: &impl Print, input: &mut impl Read, h: Hearing) -> io::Result<Hearing> {
-    let mut delivery = [0u8; 512];
-    let n = input.read(&mut delivery)?;
-    let mut frames = [0u8; 320];
-    let mut counts = [0u8; 40];
-    let r = h.receiver;
-    let received = receiver::receive(r, octets::part(&delivery, 0, n), &mut frames, &mut counts);
-    let b = h.board;
-    let board = hear_all(rt, b, &frames, received.frames)?;
-    let receiver = received.receiver;
-    Ok(Hearing {
-        receiver: receiver,
-        board: board,
-        ended: n == 0,
-    })
-}
-
-// A frame; less than one is the input's end.
-fn take_frame(rt: &impl Print, input: &mut impl Read, h: Hearing) -> io::Result<Hearing> {
-    let mut frame = [0u8; 8];
-    let n = intake::fill(input, &mut frame)?;
-    let mut next = h;
-    if n < 8 {
-        next.ended = true;
-        return Ok(next);
-    }
-    let b = h.board;
-    let board = hear(rt, b, &frame)?;
-    next.board = board;
-    Ok(next)
-}
-
-// A proved loop ends, and nothing says that the input does: so the turns are counted up to a number that no run reaches.
-fn run(rt: &impl Print, input: &mut impl Read, groups: bool) -> io::Result<()> {
-    let mut h = begin();
-    for _ in 0..u64::MAX {
-        h = if groups {
-            take_frame(rt, input, h)?
-        } else {
-            take_air(rt, input, h)?
-        };
-        if h.ended {
-            return Ok(());
+    // The first n frames of the receiver's output, in order.
+    fn hear_all(&mut self, rt: &impl Print, out: &[u8], n: usize) -> io::Result<()> {
+        for frame in out.chunks_exact(8).take(n) {
+            self.hear(rt, frame)?;
         }
+        Ok(())
+    }
+
+    // Takes air bytes, as many as came.
+    fn take_air(&mut self, rt: &impl Print, delivery: &[u8]) -> io::Result<()> {
+        let mut frames = [0u8; 320];
+        let mut counts = [0u8; 40];
+        let received = receiver::receive(self.receiver, delivery, &mut frames, &mut counts);
+        self.receiver = received.receiver;
+        self.hear_all(rt, &frames, received.frames)
+    }
+}
+
+// Air bytes, as many as are there; none is the input's end. A proved loop ends, and nothing says that the input does: so the turns are counted up to a
+// number that no run reaches.
+fn hear_air(rt: &impl Print, input: &mut impl Read) -> io::Result<()> {
+    let mut hearing = Hearing::begin();
+    let mut delivery = [0u8; 512];
+    for _ in 0..u64::MAX {
+        let n = input.read(&mut delivery)?;
+        if n == 0 {
+            break;
+        }
+        hearing.take_air(rt, octets::part(&delivery, 0, n))?;
+    }
+    Ok(())
+}
+
+// Frames; less than one is the input's end.
+fn hear_frames(rt: &impl Print, input: &mut impl Read) -> io::Result<()> {
+    let mut hearing = Hearing::begin();
+    let mut frame = [0u8; 8];
+    for _ in 0..u64::MAX {
+        if intake::fill(input, &mut frame)? < 8 {
+            break;
+        }
+        hearing.hear(rt, &frame)?;
     }
     Ok(())
 }
@@ -119,8 +100,8 @@ fn main(rt: HostRuntime) -> io::Result<()> {
     let mut what = [0u8; 1];
     intake::fill(&mut input, &mut what)?;
     match what[0] {
-        b'A' => run(&rt, &mut input, false),
-        b'G' => run(&rt, &mut input, true),
+        b'A' => hear_air(&rt, &mut input),
+        b'G' => hear_frames(&rt, &mut input),
         _ => Ok(()),
     }
 }

@@ -10,5 +10,5 @@ pub fn packet_size(b: &[u8]) -> usize
 {
     let high = octets::byte(b, 0);
     let low = octets::byte(b, 1);
-    (high % 8) as usize * 256 + low as usize + 2
+    usize::from(high % 8) * 256 + usize::from(low) + 2
 }

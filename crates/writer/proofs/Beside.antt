@@ -1,9 +1,9 @@
 -- Columns put into bits, one beside the other: a piece a row, a line in all rows, all lines. Assumes nothing.
-use mathlib.Core.Path.{◌≡◌, refl, sym, ap, ap₂, ◌∙◌, subst}
+use mathlib.Core.Path.{◌≡◌, refl, sym, ap, ap₂, ◌∙◌}
 use mathlib.Core.Bool.{true}
 use mathlib.Core.List.{List, [], ◌++◌, append-nil}
 use Prim.Native.Nat.{ℕ, zero, suc, ◌+◌, ◌*◌, ◌/◌, ◌%◌, ◌<◌, ◌≤◌}
-use native.Mathlib.Nat.{suc-mul, zero-mul, mul_assoc}
+use native.Mathlib.Nat.{mul_assoc, mul-le-mul_left}
 use native.Mathlib.Numerals.{add-one}
 use native.Mathlib.Omega.{arith}
 use lib.ListN.{length, get_or, set, take, drop, length-drop, drop_of_length-le}
@@ -22,7 +22,10 @@ use Rattle.format.proofs.Within.{made, field_put}
 use Rattle.packet.specs.declared.Lines.{Lines}
 use Rattle.packet.specs.InCode.{lines_in}
 use Rattle.packet.proofs.Loops.{lines_cons, need_turn}
-use Rattle.writer.specs.Puts.{value_of, After, Rows, Column}
+use Rattle.writer.specs.Puts.{value_of, After, Rows, Filled}
+use Rattle.writer.specs.declared.columns.Form.{Form}
+use Rattle.writer.specs.declared.columns.Form.TheVariants as form
+use Rattle.writer.specs.Forms.{Formed, Put}
 use Rattle.writer.proofs.Line.{length_value}
 use Rattle.writer.proofs.Rows.{encode_size}
 use Rattle.writer.proofs.ByColumn.{rows_bits, column_at}
@@ -82,33 +85,9 @@ pub own_piece : (t : Line) (w : ℕ) (ys : List ℕ) → t.given ≡ true → t.
 own_piece t w ys g e = ap₂ spread (sym e) (sym (if_yes (take t.count ys) _ g))
 
 -- ---- a column, r rows of it put
-pub record Laying (p s i w n q at r : ℕ) : Type 0 where
-  pub within : r ≤ n
-  pub place : q ≡ p + r * s
-  pub used : at ≡ i + r * w
-  pub near : q ≤ p + 160 * r
-  pub low : at ≤ i + 40 * r
-
-pub laying_first : (p s i w n : ℕ) → Laying p s i w n p i 0
-laying_first p s i w n =
-    record { within = omega arith; place = omega (arith, zero-mul s); used = omega (arith, zero-mul w); near = omega arith; low = omega arith }
-
-pub laying_turn : (p s i w n q at r : ℕ) → Laying p s i w n q at r → r < n → s ≤ 160 → w ≤ 40 → Laying p s i w n (q + s) (at + w) (r + 1)
-laying_turn p s i w n q at r g h a b =
-    let x : (r + 1) * s ≡ suc r * s = rw add-one in
-    let y : (r + 1) * w ≡ suc r * w = rw add-one in
-    let c = g.place in
-    let d = g.used in
-    let e = g.near in
-    let f = g.low in
-    record { within = omega arith; place = omega (arith, x, suc-mul r s); used = omega (arith, y, suc-mul r w); near = omega arith; low = omega arith }
-
--- a row's numbers, and its bits, are there
-pub numbers_there : (t : Line) (p s i w n q at r : ℕ) (xs : List ℕ) → Column t n w xs i → Laying p s i w n q at r → r < n → at + own t ≤ length xs
-numbers_there t p s i w n q at r xs h g k = let u = g.used in omega (arith, column_at t n w xs i h r k)
-
-pub bits_there : (p s i w n q at r len : ℕ) → Laying p s i w n q at r → r < n → p + n * s ≤ len → q + s ≤ len
-bits_there p s i w n q at r len g k h = let u = g.place in omega (arith, row_below r n s k)
+-- so many rows of at most k are at most so much
+pub row_near : {k : ℕ} (s r : ℕ) → s ≤ k → r * s ≤ r * k
+row_near s r h = mul-le-mul_left r h
 
 -- rows of whole bytes: what ends at a byte's edge in one does in each
 pub same_edge : (p s r q c : ℕ) → q ≡ p + r * s → (p + c) % 8 ≡ 0 → s % 8 ≡ 0 → (q + c) % 8 ≡ 0
@@ -157,7 +136,7 @@ module _ (T : List Line) (j : ℕ) (d t : Line) (h : j < length T) (e : t ≡ ge
   unfolding size
   sized = ap size (lines_cons T j d t h e)
 
-  pub going_turn : (out₀ : List ℕ) (p s n w : ℕ) (xs : List ℕ) (m : ℕ) (out last : List ℕ) (q i a v : ℕ) → Column t n w xs i → j < m → Going out₀ p s n w xs m T out q i j
+  pub going_turn : (out₀ : List ℕ) (p s n w : ℕ) (xs : List ℕ) (m : ℕ) (out last : List ℕ) (q i a v : ℕ) → Filled t n w xs i → j < m → Going out₀ p s n w xs m T out q i j
       → bits last ≡ strips (bits out) q s n (λ r. spread t.width (value_of t (drop (i + r * w) xs))) → a ≡ t.count * t.width → v ≡ own t → Going out₀ p s n w xs m T last (q + a) (i + v) (j + 1)
   unfolding encode fill
   going_turn out₀ p s n w xs m out last q i a v c k g f ea ev =
@@ -207,13 +186,25 @@ going_last out₀ p ts n s w xs out q i j h e l g =
       place = ap (λ (x : ℕ). p + n * x) (sym e);
     }
 
--- ---- a column of bytes, a row more
-pub octets_turn : (out₀ out xs : List ℕ) (p s i w n k at r x : ℕ) → Laying p s i w n (k * 8) at r → r < n → s % 8 ≡ 0 → s ≤ 160 → w ≤ 40 → at < length xs → x ≡ get_or xs at 0 → x < 256
-    → bits out ≡ strips (bits out₀) p s r (λ (m : ℕ). spread 8 (take 1 (drop (i + m * w) xs)))
-    → Laying p s i w n ((k + s / 8) * 8) (at + w) (r + 1) × (bits (set out k x) ≡ strips (bits out₀) p s (r + 1) (λ (m : ℕ). spread 8 (take 1 (drop (i + m * w) xs))))
-octets_turn out₀ out xs p s i w n k at r x g l z a b h e y f =
-    let q : k * 8 + s ≡ (k + s / 8) * 8 = omega arith in (
-      subst (λ (m : ℕ). Laying p s i w n m (at + w) (r + 1)) q (laying_turn p s i w n (k * 8) at r g l a b),
-      strips_turn (bits out₀) (bits out) (bits (set out k x)) (bits_of 8 x) p s r (k * 8) (λ (m : ℕ). spread 8 (take 1 (drop (i + m * w) xs))) f g.place
-          (ap (bits_of 8) e ∙ one_piece 8 xs at h ∙ ap (λ (m : ℕ). spread 8 (take 1 (drop m xs))) g.used) (bits_set out k x y),
-    )
+-- ---- a line in one of the rows that have it
+pub put_there : (form : Form) (t : Line) (p s n r a b : ℕ) → Formed form t p s n a → r < n → b ≡ a → Put form t (p + r * s) b
+put_there form.Halves t p s n r a b h k e =
+    let room = h.room in
+    let short = h.short in
+    (h.own, h.half, same_edge p s r (p + r * s) (4 * t.count) refl h.edge h.whole, omega (arith, row_below r n s k))
+put_there form.Octet t p s n r a b h k e =
+    let room = h.room in
+    let some = h.some in
+    (h.own, h.octet.0, h.octet.1, whole h.edge h.whole, omega (arith, row_below r n s k))
+  where
+    whole : p % 8 ≡ 0 → s % 8 ≡ 0 → (p + r * s) % 8 ≡ 0
+    whole x y = let z : (p + 0) % 8 ≡ 0 = omega (arith, x) in let w = same_edge p s r (p + r * s) 0 refl z y in omega (arith, w)
+put_there form.Numbers t p s n r a b h k e = tt
+
+-- a byte of it
+pub octet_put : (out xs : List ℕ) (t : Line) (p i x : ℕ) → t.given ≡ true → t.width ≡ 8 → t.count ≡ 1 → p % 8 ≡ 0 → i < length xs → x ≡ get_or xs i 0 → x < 256 → bits (set out (p / 8) x) ≡ sets (bits out) p (spread t.width (value_of t (drop i xs)))
+octet_put out xs t p i x g w n e h f b =
+    let q : p / 8 * 8 ≡ p = omega arith in
+    bits_set out (p / 8) x b
+    ∙ ap₂ (λ (m : ℕ) (v : List ℕ). sets (bits out) m v) q
+    (ap (bits_of 8) f ∙ one_piece 8 xs i h ∙ ap (λ (m : ℕ). spread 8 (take m (drop i xs))) (sym n) ∙ own_piece t 8 (drop i xs) g w)

@@ -17,7 +17,7 @@ use Rattle.format.proofs.Tables.{fill_join, encode_join, fine_join, length_fill}
 use Rattle.packet.specs.declared.Lines.{Lines}
 use Rattle.packet.specs.InCode.{every_line, lines_in}
 use Rattle.packet.proofs.Loops.{turn_at, need_turn}
-use Rattle.writer.specs.Puts.{value_of, Rows, Column}
+use Rattle.writer.specs.Puts.{value_of, Rows, Filled}
 use Rattle.writer.proofs.Inside.{lines_turn, lines_done}
 use Rattle.writer.proofs.Rows.{first_of}
 
@@ -59,11 +59,11 @@ module _ (row : List Line) (w : ℕ) (e : need row ≡ w) where
       ∙ sym (joined_first n (λ r. encode row (fill row (drop (r * w) xs))))
 
 -- ---- a column's numbers are there in each row
-pub column_at : (t : Line) (n w : ℕ) (xs : List ℕ) (i : ℕ) → Column t n w xs i → (r : ℕ) → r < n → i + r * w + own t ≤ length xs
+pub column_at : (t : Line) (n w : ℕ) (xs : List ℕ) (i : ℕ) → Filled t n w xs i → (r : ℕ) → r < n → i + r * w + own t ≤ length xs
 column_at t n w xs i h r k = let l = h.numbers in let f = h.inside in omega (arith, row_below r n w k)
 
 -- line j of the rows' lines is such a column
-pub a_column : (ts : Lines) (n w : ℕ) (xs : List ℕ) (p : ℕ) → Rows ts n w xs p → (i j : ℕ) (t : Line) → j < ts.m → t ≡ get_or every_line (ts.from + j) (octets 0) → w ≡ i + need (drop j (lines_in ts)) → Column t n w xs i
+pub a_column : (ts : Lines) (n w : ℕ) (xs : List ℕ) (p : ℕ) → Rows ts n w xs p → (i j : ℕ) (t : Line) → j < ts.m → t ≡ get_or every_line (ts.from + j) (octets 0) → w ≡ i + need (drop j (lines_in ts)) → Filled t n w xs i
 a_column ts n w xs p h i j t k e r =
     let u = turn_at ts.from ts.m j t h.few.1 k e in
     let x = need_turn (lines_in ts) j (octets 0) t u.inside u.same i w r in

@@ -1,13 +1,11 @@
 -- Answers 25 and 27 by the tests of the code. Assumes nothing.
 use mathlib.Core.Path.{◌≡◌, refl, sym, ap, ◌∙◌}
-use mathlib.Core.Bool.{Bool, true, false, not, ◌&&◌, ◌||◌, and-true, and_comm, or-true, or-false, not-not}
+use mathlib.Core.Bool.{Bool, true, false, not, ◌&&◌, ◌||◌, and-true, and_comm, and_assoc, or-true, or-false, not-not}
 use mathlib.Core.List.{List, ◌∷◌, ◌++◌}
 use Prim.Native.Nat.{ℕ, ◌+◌, ◌-◌}
 use native.Mathlib.Omega.{arith}
 use lib.ListN.{length, take, drop, length-drop, take-append-drop}
 use lib.Seq.{take_all}
-use borrow.Author.Tests.{not-true, not-false}
-use Rattle.laws.proofs.Cases.{and_yes, and_no}
 use Rattle.format.specs.Format.{fill, times, inside, fine}
 use Rattle.packet.specs.declared.Content.{Content}
 use Rattle.packet.specs.declared.Fields.{Fields}
@@ -19,17 +17,16 @@ use Rattle.writer.proofs.Plain.{only_entries, own_and_entries}
 use Rattle.writer.proofs.Rules.{codes_digits, codes_range, ending_digits, ending_range}
 
 -- ---- the digits beside a content: those that it uses, and the others
-others : (ds : List ℕ) (used : ℕ) → length ds ≡ 35 → take (35 - used) (drop used ds) ≡ drop used ds
-others ds used d = take_all (35 - used) (drop used ds) (omega (arith, length-drop used ds))
+others : (ds : List ℕ) (used : ℕ) → take (length ds - used) (drop used ds) ≡ drop used ds
+others ds used = take_all (length ds - used) (drop used ds) (omega (arith, length-drop used ds))
 
 pub digits_kept : (c : Content) (ds : List ℕ) (used : ℕ) (r : Bool) → length ds ≡ 35 → used ≡ digits_before c + digits_after c → r ≡ inside 0 0 (take (35 - used) (drop used ds)) → r ≡ not (digits_lost c ds)
 digits_kept c ds used r d e f =
-    f ∙ ap (inside 0 0) (others ds used d ∙ ap (λ (n : ℕ). drop n ds) e) ∙ sym (not-not (inside 0 0 (drop (digits_before c + digits_after c) ds)))
+    f ∙ ap (λ (n : ℕ). inside 0 0 (take (n - used) (drop used ds))) (sym d) ∙ ap (inside 0 0) (others ds used ∙ ap (λ (n : ℕ). drop n ds) e) ∙ sym (not-not (inside 0 0 (drop (digits_before c + digits_after c) ds)))
 
-in_parts : (ds : List ℕ) (used : ℕ) → length ds ≡ 35 → inside 0 9 ds ≡ (inside 0 9 (take (used - 0) ds) && inside 0 9 (take (35 - used) (drop used ds)))
-in_parts ds used d =
-    let e : used - 0 ≡ used = omega arith in
-    rw e (ap (inside 0 9) (sym (take-append-drop used ds) ∙ ap (λ (l : List ℕ). take used ds ++ l) (sym (others ds used d))) ∙ inside_append 0 9 (take used ds) (take (35 - used) (drop used ds)))
+in_parts : (ds : List ℕ) (used : ℕ) → inside 0 9 ds ≡ (inside 0 9 (take used ds) && inside 0 9 (take (length ds - used) (drop used ds)))
+in_parts ds used =
+    ap (inside 0 9) (sym (take-append-drop used ds) ∙ ap (λ (l : List ℕ). take used ds ++ l) (sym (others ds used))) ∙ inside_append 0 9 (take used ds) (take (length ds - used) (drop used ds))
 
 -- content x between codes c and certificate t, of which entries r are left where the digits d are digits
 in_turn : (d c x t r : Bool) → (d ≡ true → x ≡ r) → not (not (c && (x && t)) || not d) ≡ (d && (c && (t && r)))
@@ -61,30 +58,12 @@ module _ (f : Fields) (codes body : List ℕ) (h : Counts f codes body) (d : len
       ap (λ (b : Bool). not (not b || not (inside 0 9 f.digits))) fine_25
       ∙ in_turn (inside 0 9 f.digits) (inside 0 9 codes) (contents 25) (inside 0 9 f.certificate) (rows_fine 25 f.content body) (only_entries f.content f.digits body)
 
-  -- each way out
-  pub no_used : (used : ℕ) {x : Bool} → x ≡ inside 0 9 (take (used - 0) f.digits) → not x ≡ true → false ≡ not (digit_bad f codes body)
-  no_used used {x} a n = sym (asked ∙ and_no _ (in_parts f.digits used d ∙ and_no _ (sym a ∙ not-true x n)))
-
-  module _ (used : ℕ) {x : Bool} (a : x ≡ inside 0 9 (take (used - 0) f.digits)) (p : not x ≡ false) where
-    by_others : inside 0 9 f.digits ≡ inside 0 9 (take (35 - used) (drop used f.digits))
-    by_others = in_parts f.digits used d ∙ and_yes _ (sym a ∙ not-false x p)
-
-    pub no_others : {y : Bool} → y ≡ inside 0 9 (take (35 - used) (drop used f.digits)) → not y ≡ true → false ≡ not (digit_bad f codes body)
-    no_others {y} b n = sym (asked ∙ and_no _ (by_others ∙ sym b ∙ not-true y n))
-
-    module _ {y : Bool} (b : y ≡ inside 0 9 (take (35 - used) (drop used f.digits))) (q : not y ≡ false) where
-      by_codes : not (digit_bad f codes body) ≡ (inside 0 9 codes && (inside 0 9 f.certificate && rows_fine 25 f.content body))
-      by_codes = asked ∙ and_yes _ (by_others ∙ sym b ∙ not-false y q)
-
-      pub no_codes : {z : Bool} → z ≡ inside 0 9 codes → not z ≡ true → false ≡ not (digit_bad f codes body)
-      no_codes {z} k n = sym (by_codes ∙ and_no _ (sym k ∙ not-true z n))
-
-      module _ {z : Bool} (k : z ≡ inside 0 9 codes) (r : not z ≡ false) {v : Bool} (m : v ≡ inside 0 9 f.certificate) where
-        by_certificate : not (digit_bad f codes body) ≡ (v && rows_fine 25 f.content body)
-        by_certificate = by_codes ∙ and_yes _ (sym k ∙ not-false z r) ∙ rw m
-
-        pub no_certificate : not v ≡ true → false ≡ not (digit_bad f codes body)
-        no_certificate n = sym (by_certificate ∙ and_no _ (not-true v n))
-
-        pub by_entries : not v ≡ false → rows_fine 25 f.content body ≡ not (digit_bad f codes body)
-        by_entries n = sym (by_certificate ∙ and_yes _ (not-false v n))
+  -- and the digits beside it in two parts
+  pub asked_in_parts : (used : ℕ) → not (digit_bad f codes body)
+      ≡ ((((inside 0 9 (take used f.digits) && inside 0 9 (take (length f.digits - used) (drop used f.digits))) && inside 0 9 codes) && inside 0 9 f.certificate) && rows_fine 25 f.content body)
+  asked_in_parts used =
+      let A = inside 0 9 (take used f.digits) && inside 0 9 (take (length f.digits - used) (drop used f.digits)) in
+      let E = rows_fine 25 f.content body in
+      asked
+      ∙ ap (λ (b : Bool). b && (inside 0 9 codes && (inside 0 9 f.certificate && E))) (in_parts f.digits used)
+      ∙ sym (and_assoc (A && inside 0 9 codes) (inside 0 9 f.certificate) E ∙ and_assoc A (inside 0 9 codes) (inside 0 9 f.certificate && E))

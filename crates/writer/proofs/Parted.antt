@@ -80,8 +80,8 @@ module _ (c : Content) where
 
   -- the digits beside, in code
   module _ (l : Laid) (s : RowLines) (h : Known c l s) where
-    abbrev rest : Lines
-    rest = record { from = s.before.from + s.own; m = s.before.m - s.own; bits = 0; numbers = 0 }
+    abbrev rest : ℕ → ℕ → Lines
+    rest b w = record { from = s.before.from + s.own; m = s.before.m - s.own; bits = b; numbers = w }
 
     pub own_ready : (ts : Lines) (p : ℕ) → ts ≡ record { from = s.before.from; m = s.own; bits = 0; numbers = 0 } → p ≤ 29000 → Puttable ts l.numbers p
     own_ready ts p e k = subst (λ (t : Lines). Puttable t l.numbers p) (sym e) (own_puttable c s.own s.before (parted (kind_for c) h.row) p l.numbers (ap (λ (x : Laid). x.numbers) h.laid) k)
@@ -94,8 +94,8 @@ module _ (c : Content) where
         subst (λ (vs : List (List ℕ)). After out last p (encode O vs) r (size O)) (ap (λ (x : Laid). fill O x.numbers) h.laid ∙ own_fill c)
         (subst (λ (T : List Line). After out last p (encode T (fill T l.numbers)) r (size T)) (ap lines_in e ∙ (parted (kind_for c) h.row).own) a)
 
-    pub beside_listed : Listed rest (beside_of (kind_for c))
-    beside_listed =
+    pub beside_listed : (b w : ℕ) → Listed (rest b w) (beside_of (kind_for c))
+    beside_listed b w =
         let p = parted (kind_for c) h.row in
         record { lines = p.beside; few = (omega (arith, p.some, p.few.0), omega (arith, p.some, p.few.1)) }
 
@@ -106,26 +106,26 @@ module _ (c : Content) where
         let g = good (kind_for c) in
         (omega (arith, t.first_numbers, n, numbers_long c, g.numbered), omega (arith, t.first_numbers, n), omega (arith, t.first_numbers, n, numbers_long c, g.digits))
 
-    pub beside_rows : (ds : List ℕ) (p w : ℕ) → length ds ≡ 35 → w ≡ s.before.numbers - l.n → p < 4000 → Rows rest 1 w (take (w - 0) ds) p
-    beside_rows ds p w d e k =
+    pub beside_rows : (ds : List ℕ) (p w b'' : ℕ) → length ds ≡ 35 → w ≡ s.before.numbers - l.n → p < 4000 → Rows (rest b'' w) 1 w (take w ds) p
+    beside_rows ds p w b'' d e k =
         let b = beside_count in
-        can_put_rows rest (beside_of (kind_for c)) beside_listed 1 w (take (w - 0) ds) p (beside_need ∙ sym (e ∙ b.1)) (omega (arith, b.2, e)) (omega (arith, first_size, (good (kind_for c)).first)) (omega arith) (length-take-le (w - 0) ds (omega (arith, b.2, e)) ∙ omega arith) (omega arith)
+        can_put_rows (rest b'' w) (beside_of (kind_for c)) (beside_listed b'' w) 1 w (take w ds) p (beside_need ∙ sym (e ∙ b.1)) (omega (arith, b.2, e)) (omega (arith, first_size, (good (kind_for c)).first)) (omega arith) (length-take-le w ds (omega (arith, b.2, e)) ∙ omega arith) (omega arith)
 
-    pub beside_put : (ds out last : List ℕ) (p w r : ℕ) → w ≡ s.before.numbers - l.n → After out last p (encode (times 1 (lines_in rest)) (fill (times 1 (lines_in rest)) (take (w - 0) ds))) r (1 * size (lines_in rest))
+    pub beside_put : (ds out last : List ℕ) (p w b'' r : ℕ) → w ≡ s.before.numbers - l.n → After out last p (encode (times 1 (lines_in (rest b'' w))) (fill (times 1 (lines_in (rest b'' w))) (take w ds))) r (1 * size (lines_in (rest b'' w)))
         → After out last p (beside_bits c ds) r (size (beside_of (kind_for c)))
     unfolding beside_bits
-    beside_put ds out last p w r e a =
-        let q : w - 0 ≡ digits_before c = omega (arith, e, beside_count.1) in
-        subst (λ (k : ℕ). After out last p (encode (beside_of (kind_for c)) (fill (beside_of (kind_for c)) (take k ds))) r (size (beside_of (kind_for c)))) q (put_once rest (beside_of (kind_for c)) beside_listed out last (take (w - 0) ds) p r a)
+    beside_put ds out last p w b'' r e a =
+        let q : w ≡ digits_before c = omega (arith, e, beside_count.1) in
+        subst (λ (k : ℕ). After out last p (encode (beside_of (kind_for c)) (fill (beside_of (kind_for c)) (take k ds))) r (size (beside_of (kind_for c)))) q (put_once (rest b'' w) (beside_of (kind_for c)) (beside_listed b'' w) out last (take w ds) p r a)
 
   -- ---- a content's last lines
   module _ (s : RowLines) (h : s ≡ row_at (kind_for c)) where
-    pub back_rows : (ds : List ℕ) (p : ℕ) → length ds ≡ 35 → p < 30000 → Rows s.after 1 s.after.numbers (take (s.after.numbers - 0) ds) p
+    pub back_rows : (ds : List ℕ) (p : ℕ) → length ds ≡ 35 → p < 30000 → Rows s.after 1 s.after.numbers (take s.after.numbers ds) p
     back_rows ds p d k =
         let t = told (kind_for c) h in
         let g = good (kind_for c) in
         let n : s.after.numbers ≤ 35 = omega (arith, t.last_numbers, g.last) in
-        can_put_rows s.after (row_for c).after (stands (kind_for c) h).last 1 s.after.numbers (take (s.after.numbers - 0) ds) p (sym t.last_numbers) (omega arith) (omega (arith, g.rest)) (omega arith) (length-take-le (s.after.numbers - 0) ds (omega arith) ∙ omega arith) (omega arith)
+        can_put_rows s.after (row_for c).after (stands (kind_for c) h).last 1 s.after.numbers (take s.after.numbers ds) p (sym t.last_numbers) (omega arith) (omega (arith, g.rest)) (omega arith) (length-take-le s.after.numbers ds (omega arith) ∙ omega arith) (omega arith)
 
     -- or none
     pub back_none : (ds out : List ℕ) (p : ℕ) → s.after.m ≡ 0 → After out out p (back_bits c ds) p (size (row_for c).after)
@@ -134,9 +134,9 @@ module _ (c : Content) where
         let n : (row_for c).after ≡ [] = sym (stands (kind_for c) h).last.lines ∙ ap (λ (m : ℕ). take m (drop s.after.from every_line)) e in
         rw n (record { put = refl; place = omega arith })
 
-    pub back_put : (ds out last : List ℕ) (p r : ℕ) → After out last p (encode (times 1 (lines_in s.after)) (fill (times 1 (lines_in s.after)) (take (s.after.numbers - 0) ds))) r (1 * size (lines_in s.after))
+    pub back_put : (ds out last : List ℕ) (p r : ℕ) → After out last p (encode (times 1 (lines_in s.after)) (fill (times 1 (lines_in s.after)) (take s.after.numbers ds))) r (1 * size (lines_in s.after))
         → After out last p (back_bits c ds) r (size (row_for c).after)
     unfolding back_bits back_for
     back_put ds out last p r a =
-        let q : s.after.numbers - 0 ≡ need (row_for c).after = omega (arith, (told (kind_for c) h).last_numbers) in
-        subst (λ (k : ℕ). After out last p (encode (row_for c).after (fill (row_for c).after (take k ds))) r (size (row_for c).after)) q (put_once s.after (row_for c).after (stands (kind_for c) h).last out last (take (s.after.numbers - 0) ds) p r a)
+        let q : s.after.numbers ≡ need (row_for c).after = omega (arith, (told (kind_for c) h).last_numbers) in
+        subst (λ (k : ℕ). After out last p (encode (row_for c).after (fill (row_for c).after (take k ds))) r (size (row_for c).after)) q (put_once s.after (row_for c).after (stands (kind_for c) h).last out last (take s.after.numbers ds) p r a)

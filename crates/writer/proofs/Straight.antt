@@ -1,17 +1,19 @@
 -- What is put byte by byte: a code, codes, a time. Assumes nothing.
-use mathlib.Core.Path.{◌≡◌, sym, ap, ap₂, ◌∙◌}
-use mathlib.Core.List.{List, ◌∷◌, ◌++◌, append-nil, append_assoc}
-use Prim.Native.Nat.{ℕ, ◌+◌, ◌*◌, ◌/◌, ◌%◌, ◌<◌, ◌≤◌}
+use mathlib.Core.Path.{◌≡◌, refl, sym, ap, ap₂, ◌∙◌}
+use mathlib.Core.List.{List, [], ◌∷◌, ◌++◌, append-nil, append_assoc}
+use Prim.Native.Nat.{ℕ, suc, ◌+◌, ◌*◌, ◌/◌, ◌%◌, ◌<◌, ◌≤◌}
 use native.Mathlib.Numerals.{add-one}
 use native.Mathlib.Omega.{arith}
-use lib.ListN.{length, get_or, set, take, drop, length-drop, length-append}
+use lib.ListN.{length, get_or, set, take, drop, length-drop}
 use lib.Seq.{sets, drop-cons}
-use Rattle.laws.specs.Bits.{bits, bits_of, spread}
+use Rattle.std.specs.Int.{to_be_bytes}
+use mir.Syntax.{w32}
+use Rattle.laws.specs.Bits.{bits, bits_of, spread, Under}
 use Rattle.laws.specs.Strips.{strips}
 use Rattle.laws.proofs.Bits.{length_bits_of}
 use Rattle.laws.proofs.Strips.{row_below, strips_whole}
 use Rattle.laws.proofs.Words.{bits_join}
-use Rattle.laws.proofs.Writes.{join}
+use Rattle.laws.proofs.Writes.{join, sets_append}
 use Rattle.format.specs.Format.{size, encode, fill, times}
 use Rattle.format.proofs.Halves.{bits_set}
 use Rattle.format.proofs.Parts.{bits_low}
@@ -20,7 +22,7 @@ use Rattle.writer.specs.Puts.{After}
 use Rattle.writer.specs.Parts.{code_bits}
 use Rattle.writer.proofs.Rows.{encode_size}
 use Rattle.writer.proofs.ByColumn.{rows_bits}
-use Rattle.writer.proofs.Beside.{strips_turn, strips_done}
+use Rattle.writer.proofs.Beside.{strips_turn}
 use Rattle.writer.proofs.Together.{code_need, code_size}
 
 -- ---- a code: four reserved bits and a digit, then two digits a byte
@@ -45,36 +47,19 @@ code_put o u r xs k i h e f =
     ∙ ap (sets (bits o) (k * 8)) (code_is xs i (omega arith))
 
 -- ---- codes, j of them put
-pub record Coding (out₀ : List ℕ) (n : ℕ) (xs out : List ℕ) (k i j : ℕ) : Type 0 where
-  pub within : j ≤ n
-  pub place : k ≡ 3 + 12 * j
-  pub used : i ≡ 23 * j
-  pub kept : length out ≡ length out₀
-  pub put : bits out ≡ strips (bits out₀) 24 96 j (λ (r : ℕ). code_bits (drop (r * 23) xs))
+pub coding_turn : (out₀ xs out last : List ℕ) (j : ℕ) → bits out ≡ strips (bits out₀) 24 96 j (λ (r : ℕ). code_bits (drop (r * 23) xs)) → bits last ≡ sets (bits out) ((3 + 12 * j) * 8) (code_bits (drop (23 * j) xs))
+    → bits last ≡ strips (bits out₀) 24 96 (j + 1) (λ (r : ℕ). code_bits (drop (r * 23) xs))
+coding_turn out₀ xs out last j g e =
+    let s : 23 * j ≡ j * 23 = omega arith in
+    strips_turn (bits out₀) (bits out) (bits last) (code_bits (drop (23 * j) xs)) 24 96 j ((3 + 12 * j) * 8) (λ (r : ℕ). code_bits (drop (r * 23) xs)) g (omega arith) (ap (λ (m : ℕ). code_bits (drop m xs)) s) e
 
-pub coding_turn : (out₀ : List ℕ) (n : ℕ) (xs out last : List ℕ) (k i j : ℕ) → Coding out₀ n xs out k i j → j < n → length last ≡ length out → bits last ≡ sets (bits out) (k * 8) (code_bits (drop i xs)) → Coding out₀ n xs last (k + 12) (i + 23) (j + 1)
-coding_turn out₀ n xs out last k i j g h l e =
-    let p = g.place in
-    let u = g.used in
-    let s : i ≡ j * 23 = omega arith in
-    record {
-      within = omega arith;
-      place = omega arith;
-      used = omega arith;
-      kept = l ∙ g.kept;
-      put = strips_turn (bits out₀) (bits out) (bits last) (code_bits (drop i xs)) 24 96 j (k * 8) (λ (r : ℕ). code_bits (drop (r * 23) xs)) g.put (omega arith) (ap (λ (m : ℕ). code_bits (drop m xs)) s) e;
-    }
-
-pub coding_last : (out₀ : List ℕ) (n : ℕ) (xs out : List ℕ) (k i j : ℕ) → length xs ≡ n * 23 → Coding out₀ n xs out k i j → n ≤ j → After out₀ out 24 (encode (times n code) (fill (times n code) xs)) (24 + 96 * n) (n * size code)
+pub coding_last : (out₀ : List ℕ) (n : ℕ) (xs out : List ℕ) → length xs ≡ n * 23 → bits out ≡ strips (bits out₀) 24 96 n (λ (r : ℕ). code_bits (drop (r * 23) xs)) → After out₀ out 24 (encode (times n code) (fill (times n code) xs)) (24 + 96 * n) (n * size code)
 unfolding code_bits
-coding_last out₀ n xs out k i j l g h =
+coding_last out₀ n xs out l g =
     let f : ℕ → List ℕ = λ (r : ℕ). encode code (fill code (drop (r * 23) xs)) in
     let long : (r : ℕ) → r < n → length (f r) ≡ 96 = λ r m. encode_size code (drop (r * 23) xs) (omega (arith, length-drop (r * 23) xs, row_below r n 23 m, l, code_need)) ∙ code_size in
     record {
-      put =
-          strips_done (bits out₀) (bits out) 24 96 n j f g.within h g.put
-          ∙ strips_whole n f (bits out₀) 24 96 long
-          ∙ ap (sets (bits out₀) 24) (sym (rows_bits code 23 code_need n xs l));
+      put = g ∙ strips_whole n f (bits out₀) 24 96 long ∙ ap (sets (bits out₀) 24) (sym (rows_bits code 23 code_need n xs l));
       place = omega (arith, ap (λ (m : ℕ). n * m) code_size);
     }
 
@@ -82,8 +67,8 @@ coding_last out₀ n xs out k i j l g h =
 cut_byte : (v x : ℕ) → bits_of (v + 8) x ≡ bits_of v (x / 256) ++ bits_of 8 (x % 256)
 cut_byte v x = let e : x ≡ x / 256 * 256 + x % 256 = omega arith in ap (bits_of (v + 8)) e ∙ bits_join v 8 (x / 256) (x % 256) (omega arith)
 
-time_bits : (t : ℕ) → ((bits_of 8 (t / 16777216) ++ bits_of 8 (t / 65536 % 256)) ++ bits_of 8 (t / 256 % 256)) ++ bits_of 8 (t % 256) ≡ bits_of 32 t
-time_bits t =
+time_parts : (t : ℕ) → ((bits_of 8 (t / 16777216) ++ bits_of 8 (t / 65536 % 256)) ++ bits_of 8 (t / 256 % 256)) ++ bits_of 8 (t % 256) ≡ bits_of 32 t
+time_parts t =
     let a : t / 256 / 256 ≡ t / 65536 = omega arith in
     let b : t / 65536 / 256 ≡ t / 16777216 = omega arith in
     let two : bits_of 16 (t / 65536) ≡ bits_of 8 (t / 16777216) ++ bits_of 8 (t / 65536 % 256) = cut_byte 8 (t / 65536) ∙ ap (λ (x : ℕ). bits_of 8 x ++ bits_of 8 (t / 65536 % 256)) b in
@@ -91,21 +76,25 @@ time_bits t =
     cut_byte 16 (t / 256) ∙ ap (λ (x : ℕ). bits_of 16 x ++ bits_of 8 (t / 256 % 256)) a ∙ ap (λ (l : List ℕ). l ++ bits_of 8 (t / 256 % 256)) two in
     sym (cut_byte 24 t ∙ ap (λ (l : List ℕ). l ++ bits_of 8 (t % 256)) three)
 
-pub time_put : (o : List ℕ) (k t : ℕ) → t < 4294967296
-    → bits (set (set (set (set o k (t / 16777216)) (k + 1) (t / 65536 % 256)) (k + 2) (t / 256 % 256)) (k + 3) (t % 256)) ≡ sets (bits o) (k * 8) (bits_of 32 t)
-time_put o k t h =
-    let a = t / 16777216 in
-    let b = t / 65536 % 256 in
-    let c = t / 256 % 256 in
-    let d = t % 256 in
-    let o1 = set o k a in
-    let o2 = set o1 (k + 1) b in
-    let o3 = set o2 (k + 2) c in
-    let o4 = set o3 (k + 3) d in
-    let la = length_bits_of 8 a in
-    let lb = length_bits_of 8 b in
-    let lc = length_bits_of 8 c in
-    let e2 = join (bits o) (bits o1) (bits o2) (bits_of 8 a) (bits_of 8 b) (k * 8) ((k + 1) * 8) (bits_set o k a (omega arith)) (bits_set o1 (k + 1) b (omega arith)) (omega arith) in
-    let e3 = join (bits o) (bits o2) (bits o3) (bits_of 8 a ++ bits_of 8 b) (bits_of 8 c) (k * 8) ((k + 2) * 8) e2 (bits_set o2 (k + 2) c (omega arith)) (omega (arith, length-append (bits_of 8 a) (bits_of 8 b))) in
-    join (bits o) (bits o3) (bits o4) ((bits_of 8 a ++ bits_of 8 b) ++ bits_of 8 c) (bits_of 8 d) (k * 8) ((k + 3) * 8) e3 (bits_set o3 (k + 3) d (omega arith)) (omega (arith, length-append (bits_of 8 a ++ bits_of 8 b) (bits_of 8 c), length-append (bits_of 8 a) (bits_of 8 b)))
-    ∙ ap (sets (bits o) (k * 8)) (time_bits t)
+pub time_bits : (t : ℕ) → t < 4294967296 → spread 8 (to_be_bytes w32 t) ≡ bits_of 32 t
+unfolding spread
+time_bits t h =
+    let a : t / 16777216 % 256 ≡ t / 16777216 = omega arith in
+    let A = bits_of 8 (t / 16777216) in
+    let B = bits_of 8 (t / 65536 % 256) in
+    let C = bits_of 8 (t / 256 % 256) in
+    let D = bits_of 8 (t % 256) in
+    ap (λ (n : ℕ). bits_of 8 n ++ (B ++ (C ++ (D ++ [])))) a
+    ∙ ap (λ (l : List ℕ). A ++ (B ++ (C ++ l))) (append-nil D)
+    ∙ sym (append_assoc (A ++ B) C D ∙ append_assoc A B (C ++ D))
+    ∙ time_parts t
+
+-- ---- bytes
+pub bytes_put : (o d : List ℕ) (k : ℕ) → Under 256 d → bits (sets o k d) ≡ sets (bits o) (k * 8) (spread 8 d)
+unfolding spread
+bytes_put o [] k u = refl
+bytes_put o (x ∷ d) k u =
+    let n : suc k * 8 ≡ k * 8 + length (bits_of 8 x) = omega (arith, length_bits_of 8 x) in
+    bytes_put (set o k x) d (suc k) (λ i. u (suc i))
+    ∙ ap₂ (λ (l : List ℕ) (i : ℕ). sets l i (spread 8 d)) (bits_set o k x (u 0)) n
+    ∙ sym (sets_append (bits_of 8 x) (spread 8 d) (bits o) (k * 8))

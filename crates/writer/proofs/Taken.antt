@@ -2,11 +2,11 @@
 use mathlib.Core.Path.{◌≡◌, refl, sym, ap, ◌∙◌}
 use mathlib.Core.Bool.{Bool, true, false, not, ◌&&◌, ◌||◌, false≢true, true≢false}
 use mathlib.Core.List.{List}
-use Prim.Native.Nat.{ℕ, ◌*◌, ◌<◌, ◌≤◌}
+use Prim.Native.Nat.{ℕ, ◌*◌, ◌≤◌}
 use lib.Dec.{leb, eqb}
 use lib.ListN.{length}
-use borrow.Author.Tests.{leb-true, eqb-true, eq-eqb, ne_eqb, le-leb, lt-leb, not-false}
-use Rattle.laws.proofs.Cases.{and_yes, and_no, and_both, or_yes, or_no}
+use borrow.Author.Tests.{leb-true, eqb-true, not-false}
+use Rattle.laws.proofs.Cases.{and_yes, and_no, and_both}
 use Rattle.format.specs.Format.{need, fine}
 use Rattle.packet.specs.declared.Counting.{Counting}
 use Rattle.packet.specs.declared.Counting.TheVariants as counting
@@ -21,19 +21,6 @@ use Rattle.packet.specs.Writing.{row_for, body_for, table_for, values_for, lent_
 use Rattle.writer.specs.Parts.{Lent, Bodied, Counts, something_lost}
 
 -- ---- the counts
-module _ (f : Fields) (codes body : List ℕ) where
-  pub many_codes : 255 < f.codes → true ≡ count_bad f codes body
-  unfolding count_bad
-  many_codes h = sym (or_yes _ (ap not (and_no _ (lt-leb _ _ h))))
-
-  pub other_codes : f.codes ≤ 255 → (length codes ≡ f.codes * 23 → ⊥) → true ≡ count_bad f codes body
-  unfolding count_bad
-  other_codes h n = sym (or_yes _ (ap not (and_yes _ (le-leb _ _ h) ∙ ne_eqb _ _ n)))
-
-  pub by_lent : f.codes ≤ 255 → length codes ≡ f.codes * 23 → lent_bad (row_for f.content).counting (count_for f.content body) (need (row_for f.content).each) (length body) ≡ count_bad f codes body
-  unfolding count_bad
-  by_lent h e = sym (or_no _ (ap not (and_yes _ (le-leb _ _ h) ∙ eq-eqb _ _ e)))
-
 -- a counted content: all of it
 pub counted_lent : (c : Content) (body : List ℕ) → (row_for c).counting ≡ counting.Counted → lent_bad (row_for c).counting (count_for c body) (need (row_for c).each) (length body) ≡ false → Lent c body
 counted_lent c body s e =
@@ -76,27 +63,37 @@ entries_lent f codes body g q = by (repeated (kind_for f.content))
     by (nothing e r z) = absurd (true≢false (sym q ∙ e))
 
 -- ---- answer 27
-module _ (f : Fields) (body : List ℕ) where
-  pub other_type_lem : (type_of (kind_of f.typenumber) ≡ type_of (kind_for f.content) → ⊥) → false ≡ not (something_lost f body)
-  unfolding something_lost
-  other_type_lem n = sym (ap not (or_yes _ (ap not (ne_eqb _ _ n))))
+-- a body is lost only where a content is of a fixed size
+pub not_lost : (s : Counting) (lent : ℕ) → (s ≡ counting.Fixed → ⊥) → false ≡ body_lost s lent
+not_lost counting.Fixed lent n = absurd (n refl)
+not_lost counting.Counted lent n = refl
+not_lost counting.Raw lent n = refl
+not_lost counting.Unknown lent n = refl
 
-  module _ (t : type_of (kind_of f.typenumber) ≡ type_of (kind_for f.content)) where
-    this_type : other_type f ≡ false
-    this_type = ap not (eq-eqb _ _ t)
+-- and a count is wrong only where a content is counted
+pub not_counted : (s : Counting) (k w lent : ℕ) → (s ≡ counting.Counted → ⊥) → false ≡ lent_bad s k w lent
+not_counted counting.Fixed k w lent n = refl
+not_counted counting.Counted k w lent n = absurd (n refl)
+not_counted counting.Raw k w lent n = refl
+not_counted counting.Unknown k w lent n = refl
 
-    pub body_lost_lem : body_lost (row_for f.content).counting (length body) ≡ true → false ≡ not (something_lost f body)
-    unfolding something_lost
-    body_lost_lem e = sym (ap not (or_no _ this_type ∙ or_yes _ e))
+-- tests joined in code, the second one made only where the first holds
+pub then_both : {v a b x : Bool} → v ≡ b → b ≡ x → a ≡ true → v ≡ (a && x)
+then_both {v} {a} {b} {x} e f h = e ∙ f ∙ sym (and_yes x h)
 
-    module _ (b : body_lost (row_for f.content).counting (length body) ≡ false) where
-      pub digits_lost_lem : digits_lost f.content f.digits ≡ true → false ≡ not (something_lost f body)
-      unfolding something_lost
-      digits_lost_lem e = sym (ap not (or_no _ this_type ∙ or_no _ b ∙ or_yes _ e))
+pub else_none : {v a : Bool} (x : Bool) → v ≡ false → a ≡ false → v ≡ (a && x)
+else_none x e h = e ∙ sym (and_no x h)
 
-      pub by_codes : digits_lost f.content f.digits ≡ false → not (eqb f.typenumber 1 && not (eqb f.codes 0)) ≡ not (something_lost f body)
-      unfolding something_lost
-      by_codes e = sym (ap not (or_no _ this_type ∙ or_no _ b ∙ or_no _ e))
+none_of : (a b c d : Bool) → not (not a || (b || (c || d))) ≡ (((a && not b) && not c) && not d)
+none_of false b c d = refl
+none_of true true c d = refl
+none_of true false true d = refl
+none_of true false false d = refl
+
+pub none_lost : (f : Fields) (body : List ℕ) → not (something_lost f body)
+    ≡ (((eqb (type_of (kind_of f.typenumber)) (type_of (kind_for f.content)) && not (body_lost (row_for f.content).counting (length body))) && not (digits_lost f.content f.digits)) && not (eqb f.typenumber 1 && not (eqb f.codes 0)))
+unfolding something_lost
+none_lost f body = none_of (eqb (type_of (kind_of f.typenumber)) (type_of (kind_for f.content))) (body_lost (row_for f.content).counting (length body)) (digits_lost f.content f.digits) (eqb f.typenumber 1 && not (eqb f.codes 0))
 
 -- the two parts together
 pub taken_parts : (a b c d x y : Bool) → not (a || (b || (c || (d || (not x || y))))) ≡ (not (a || (b || (c || d))) && (x && not y))

@@ -42,7 +42,7 @@ pub record Rows (ts : Lines) (n w : ℕ) (xs : List ℕ) (p : ℕ) : Type 0 wher
   pub place : p + 160 * n < 48000
 
 -- a line of which n rows of w numbers each have the numbers from the row's i-th on
-pub record Column (t : Line) (n w : ℕ) (xs : List ℕ) (i : ℕ) : Type 0 where
+pub record Filled (t : Line) (n w : ℕ) (xs : List ℕ) (i : ℕ) : Type 0 where
   pub good : sound t ≡ true
   pub inside : i + own t ≤ w
   pub narrow : w ≤ 40

@@ -8,15 +8,13 @@ ghost use Rattle.writer.specs.Puts.{After, Known, count_lent};
 ghost use Rattle.writer.specs.Parts.{own_bits, beside_bits, front_bits, front_size, body_bits, body_size, back_bits, content_bits, content_size, Lent};
 
 use crate::{columns, puts};
-use packet::{Content, Counting, Kind, Laid, RowLines};
+use packet::{Content, Counting, Kind, Laid, Lines, RowLines};
 
 // The kind of a content.
 pub(crate) fn kind_for(c: Content) -> Kind
     ensures { result ≡ kind_for c }
 {
-    let l = packet::lay(c);
-    let kind = l.kind;
-    kind
+    packet::lay(c).kind
 }
 
 // Its count, where a body of so many bytes is lent.
@@ -24,14 +22,11 @@ pub(crate) fn count_for(c: Content, lent: usize) -> usize
     ensures { result ≡ count_lent c lent }
 {
     let l = packet::lay(c);
-    let kind = l.kind;
-    let s = table::row_of(kind);
-    let counting = s.counting;
-    match counting {
-        Counting::Fixed => 0,
+    let s = table::row_of(l.kind);
+    match s.counting {
         Counting::Counted => l.count,
         Counting::Raw => lent,
-        Counting::Unknown => 0,
+        Counting::Fixed | Counting::Unknown => 0,
     }
 }
 
@@ -40,8 +35,7 @@ pub(crate) fn digits_used(c: Content) -> usize
     ensures { (result ≡ digits_before c + digits_after c) × (result ≤ 35) }
 {
     let l = packet::lay(c);
-    let kind = l.kind;
-    let z = table::sizes_of(kind);
+    let z = table::sizes_of(l.kind);
     z.first - l.n + z.last
 }
 
@@ -50,10 +44,8 @@ fn put_own(out: &mut [u8], p: usize, c: Content, l: Laid, s: RowLines) -> usize
     requires { Known c l s × (p < 3000) }
     ensures { After out.old out.new p (own_bits c) result (size (own_of (kind_for c))) }
 {
-    let before = s.before;
-    let numbers = l.numbers;
-    let own = puts::lines_at(before.from, s.own);
-    puts::put_lines(out, p, own, &numbers)
+    let own = puts::lines_at(s.before.from, s.own);
+    puts::put_lines(out, p, own, &l.numbers)
 }
 
 // Those of the digits beside it, which have so many bits.
@@ -69,10 +61,14 @@ fn put_beside(
     requires { Known c l s × (bits ≡ size (beside_of (kind_for c))) × (p < 4000) × (length digits.now ≡ 35) }
     ensures { After out.old out.new p (beside_bits c digits.now) result (size (beside_of (kind_for c))) }
 {
-    let before = s.before;
-    let w = before.numbers - l.n;
-    let rest = puts::lines_at(before.from + s.own, before.m - s.own);
-    columns::put_rows(out, p, rest, 1, bits, w, &digits[0..w])
+    let numbers = s.before.numbers - l.n;
+    let rest = Lines {
+        from: s.before.from + s.own,
+        m: s.before.m - s.own,
+        bits,
+        numbers,
+    };
+    columns::put_rows(out, p, rest, 1, &digits[..numbers])
 }
 
 // What stands before the repeated part: the first lines, and the count where there is one.
@@ -88,11 +84,9 @@ fn put_front(
     requires { Known c l s × (k ≤ 255) × (p < 3000) × (length digits.now ≡ 35) }
     ensures { After out.old out.new p (front_bits c digits.now k) result (front_size c k) }
 {
-    let before = s.before;
-    let counting = s.counting;
     let q = put_own(out, p, c, l, s);
-    let e = put_beside(out, q, before.bits - (q - p), c, l, s, digits);
-    puts::put_count(out, e, counting, k)
+    let e = put_beside(out, q, s.before.bits - (q - p), c, l, s, digits);
+    puts::put_count(out, e, s.counting, k)
 }
 
 // The repeated part: entries, or bytes, of which most contents have none.
@@ -100,9 +94,8 @@ fn put_body(out: &mut [u8], p: usize, c: Content, s: RowLines, k: usize, body: &
     requires { (s ≡ row_at (kind_for c)) × (k ≡ count_for c body.now) × Lent c body.now × (p < 3000) }
     ensures { After out.old out.new p (body_bits c body.now) result (body_size c body.now) }
 {
-    let each = s.each;
-    if 1 < each.m {
-        columns::put_rows(out, p, each, k, each.bits, each.numbers, body)
+    if 1 < s.each.m {
+        columns::put_rows(out, p, s.each, k, body)
     } else {
         puts::put_octets(out, p, body)
     }
@@ -113,12 +106,10 @@ fn put_back(out: &mut [u8], p: usize, c: Content, s: RowLines, digits: &[u8]) ->
     requires { (s ≡ row_at (kind_for c)) × (p < 30000) × (length digits.now ≡ 35) }
     ensures { After out.old out.new p (back_bits c digits.now) result (size (row_for c).after) }
 {
-    let after = s.after;
-    if after.m == 0 {
+    if s.after.m == 0 {
         return p;
     }
-    let w = after.numbers;
-    columns::put_rows(out, p, after, 1, after.bits, w, &digits[0..w])
+    columns::put_rows(out, p, s.after, 1, &digits[..s.after.numbers])
 }
 
 // A whole content from bit p on; the place behind it.
@@ -127,8 +118,7 @@ pub(crate) fn put_content(out: &mut [u8], p: usize, c: Content, digits: &[u8], b
     ensures { After out.old out.new p (content_bits c digits.now body.now) result (content_size c body.now) }
 {
     let l = packet::lay(c);
-    let kind = l.kind;
-    let s = table::row_of(kind);
+    let s = table::row_of(l.kind);
     let k = count_for(c, body.len());
     let q = put_front(out, p, c, l, s, digits, k);
     let e = put_body(out, q, c, s, k, body);

@@ -12,14 +12,7 @@ use packet::Lines;
 fn line_fits(a: u8, t: Line, x: u32) -> bool
     ensures { result ≡ line_ok a t (x ∷ []) }
 {
-    let o = t.answer;
-    if o != a {
-        return true;
-    }
-    if x < t.lo {
-        return false;
-    }
-    x <= t.hi
+    t.answer != a || (t.lo <= x && x <= t.hi)
 }
 
 // No line with the numbers xs is due the answer a.
@@ -27,18 +20,14 @@ pub(crate) fn lines_fit(a: u8, ts: Lines, xs: &[u32]) -> bool
     requires { Puttable ts xs.now 0 }
     ensures { result ≡ fine a (lines_in ts) (fill (lines_in ts) xs.now) }
 {
-    let m = ts.m;
-    let from = ts.from;
     let mut i: usize = 0;
-    let mut j: usize = 0;
-    while j < m {
-        let t = table::line_at(from + j);
-        let x = puts::number_of(t, xs, i);
+    for j in 0..ts.m {
+        let t = table::line_at(ts.from + j);
+        let x = puts::number_of(t, xs.get(i).copied().unwrap_or(0));
         if !line_fits(a, t, x) {
             return false;
         }
         i += puts::taken(t);
-        j += 1;
     }
     true
 }

@@ -35,27 +35,10 @@ fn put_codes(out: &mut [u8], n: usize, codes: &[u8]) -> usize
     requires { (3 + 12 * n ≤ length out.old) × (length codes.now ≡ n * 23) × (n ≤ 255) }
     ensures { After out.old out.new 24 (encode (times n code) (fill (times n code) codes.now)) result (n * size code) }
 {
-    let mut k: usize = 3;
-    let mut i: usize = 0;
-    let mut j: usize = 0;
-    while j < n {
-        put_code(out, k, codes, i);
-        k += 12;
-        i += 23;
-        j += 1;
+    for j in 0..n {
+        put_code(out, 3 + 12 * j, codes, 23 * j);
     }
     24 + 96 * n
-}
-
-// A time in four bytes from byte k on.
-fn put_time(out: &mut [u8], k: usize, time: u32)
-    requires { k + 4 ≤ length out.old }
-    ensures { bits out.new ≡ sets (bits out.old) (k * 8) (bits_of 32 time) }
-{
-    out[k] = (time / 16777216) as u8;
-    out[k + 1] = (time / 65536 % 256) as u8;
-    out[k + 2] = (time / 256 % 256) as u8;
-    out[k + 3] = (time % 256) as u8;
 }
 
 // Bytes from byte k on, as they are.
@@ -63,12 +46,15 @@ fn put_bytes(out: &mut [u8], k: usize, d: &[u8])
     requires { k + length d.now ≤ length out.old }
     ensures { bits out.new ≡ sets (bits out.old) (k * 8) (spread 8 d.now) }
 {
-    let n = d.len();
-    let mut j: usize = 0;
-    while j < n {
-        out[k + j] = d[j];
-        j += 1;
-    }
+    out[k..k + d.len()].copy_from_slice(d);
+}
+
+// A time in four bytes from byte k on.
+fn put_time(out: &mut [u8], k: usize, time: u32)
+    requires { k + 4 ≤ length out.old }
+    ensures { bits out.new ≡ sets (bits out.old) (k * 8) (bits_of 32 time) }
+{
+    put_bytes(out, k, &time.to_be_bytes());
 }
 
 // Time, certificate number and signature.
@@ -94,12 +80,8 @@ pub(crate) fn put_packet(f: Fields, codes: &[u8], body: &[u8], size: usize, out:
     requires { Writable f codes.now body.now × (size ≡ size_for f body.now) × (size ≤ length out.old) }
     ensures { bits out.new ≡ sets (bits out.old) 0 (encode (table_for f body.now) (values_for f codes.now body.now)) }
 {
-    let c = f.content;
-    let digits = f.digits;
-    let certificate = f.certificate;
-    let signature = f.signature;
     put_head(out, f.typenumber, size, f.codes);
     let q = put_codes(out, f.codes, codes);
-    let e = content::put_content(out, q, c, &digits, body);
-    put_ending(out, e, f.time, certificate, signature);
+    let e = content::put_content(out, q, f.content, &f.digits, body);
+    put_ending(out, e, f.time, f.certificate, f.signature);
 }

@@ -1,5 +1,5 @@
 // The lines of a table put into bits: a line, lines, rows of lines.
-ghost use Rattle.std.specs.Prelude.{◌≡◌, true, cond, ◌*◌, ◌<◌, ◌≤◌, length, get_or, []};
+ghost use Rattle.std.specs.Prelude.{◌≡◌, true, cond, ◌*◌, ◌<◌, ◌≤◌, length, []};
 ghost use Rattle.laws.specs.Bits.{spread};
 ghost use Rattle.format.specs.Format.{own, size, encode, fill, sound};
 ghost use Rattle.packet.specs.Table.{count_line};
@@ -9,16 +9,11 @@ ghost use Rattle.writer.specs.Puts.{After, Puttable};
 use format::Line;
 use packet::{Counting, Lines};
 
-// The number at i of a line: its own, or the one that it always has.
-pub(crate) fn number_of(t: Line, xs: &[u32], i: usize) -> u32
-    ensures { result ≡ cond t.given (get_or xs.now i 0) t.lo }
+// The number of a line: its own, x, or the one that it always has.
+pub(crate) fn number_of(t: Line, x: u32) -> u32
+    ensures { result ≡ cond t.given x t.lo }
 {
-    let free = t.given;
-    if free {
-        if i < xs.len() { xs[i] } else { 0 }
-    } else {
-        t.lo
-    }
+    if t.given { x } else { t.lo }
 }
 
 // m lines from a place on, of which neither bits nor numbers are asked.
@@ -26,8 +21,8 @@ pub(crate) fn lines_at(from: usize, m: usize) -> Lines
     ensures { result ≡ record { from = from; m = m; bits = 0; numbers = 0 } }
 {
     Lines {
-        from: from,
-        m: m,
+        from,
+        m,
         bits: 0,
         numbers: 0,
     }
@@ -44,8 +39,7 @@ pub(crate) fn width(t: Line) -> usize
 pub(crate) fn taken(t: Line) -> usize
     ensures { result ≡ own t }
 {
-    let free = t.given;
-    if free { t.count } else { 0 }
+    if t.given { t.count } else { 0 }
 }
 
 // Lines from bit p on, with the numbers xs; the place behind them.
@@ -53,18 +47,14 @@ pub(crate) fn put_lines(out: &mut [u8], p: usize, ts: Lines, xs: &[u32]) -> usiz
     requires { Puttable ts xs.now p }
     ensures { After out.old out.new p (encode (lines_in ts) (fill (lines_in ts) xs.now)) result (size (lines_in ts)) }
 {
-    let m = ts.m;
-    let from = ts.from;
     let mut q = p;
     let mut i: usize = 0;
-    let mut j: usize = 0;
-    while j < m {
-        let t = table::line_at(from + j);
-        let x = number_of(t, xs, i);
+    for j in 0..ts.m {
+        let t = table::line_at(ts.from + j);
+        let x = number_of(t, xs.get(i).copied().unwrap_or(0));
         format::put_field(out, q, t.width, x);
         q += t.width;
         i += taken(t);
-        j += 1;
     }
     q
 }
@@ -75,13 +65,11 @@ pub(crate) fn put_count(out: &mut [u8], p: usize, counting: Counting, k: usize) 
     ensures { After out.old out.new p (encode (count_line counting k) (fill (count_line counting k) [])) result (size (count_line counting k)) }
 {
     match counting {
-        Counting::Fixed => p,
         Counting::Counted => {
             format::put_field(out, p, 8, k as u32);
             p + 8
         }
-        Counting::Raw => p,
-        Counting::Unknown => p,
+        Counting::Fixed | Counting::Raw | Counting::Unknown => p,
     }
 }
 

@@ -1,5 +1,5 @@
 // What is wrong with fields: the answers 23, 26, 25, 27, 20 and 10, in that order.
-ghost use Rattle.std.specs.Prelude.{◌≡◌, not, cond, ◌&&◌, true, false, ◌+◌, ◌-◌, ◌*◌, ◌≤◌, drop, leb, ltb, eqb, ◌⊎◌};
+ghost use Rattle.std.specs.Prelude.{◌≡◌, not, cond, ◌&&◌, true, false, ◌+◌, ◌*◌, ◌≤◌, drop, leb, ltb, eqb, ◌⊎◌};
 ghost use Rattle.laws.specs.Refusals.{first};
 ghost use Rattle.format.specs.Format.{inside, need};
 ghost use Rattle.packet.specs.Content.{kind_for, no_such_day};
@@ -11,25 +11,12 @@ ghost use Rattle.writer.specs.Puts.{count_lent};
 use crate::{columns, content, fits, puts};
 use packet::{Content, Counting, Fields, Written};
 
-// The greater of two.
-fn greater(a: u8, b: u8) -> u8
-    ensures { result ≡ a + (b - a) }
-{
-    if a < b { b } else { a }
-}
-
 // Each is at most hi: the greatest is.
 fn all_most(xs: &[u8], hi: u8) -> bool
     ensures { result ≡ inside 0 hi xs.now }
 {
-    let n = xs.len();
-    let mut most: u8 = 0;
-    let mut j: usize = 0;
-    while j < n {
-        most = greater(most, xs[j]);
-        j += 1;
-    }
-    most <= hi
+    // Not `all`, which leaves early and so takes byte by byte.
+    xs.iter().fold(0, |most: u8, x| most.max(*x)) <= hi
 }
 
 // The content's own numbers are in their ranges.
@@ -37,12 +24,9 @@ fn own_fine(c: Content) -> bool
     ensures { result ≡ own_fine c }
 {
     let l = packet::lay(c);
-    let kind = l.kind;
-    let s = table::row_of(kind);
-    let before = s.before;
-    let numbers = l.numbers;
-    let own = puts::lines_at(before.from, s.own);
-    fits::lines_fit(27, own, &numbers)
+    let s = table::row_of(l.kind);
+    let own = puts::lines_at(s.before.from, s.own);
+    fits::lines_fit(27, own, &l.numbers)
 }
 
 // What is repeated: entries are tested, bytes are not.
@@ -53,10 +37,8 @@ fn body_fine(answer: u8, c: Content, body: &[u8]) -> bool
     let f = content::kind_for(c);
     if table::has_entries(f) {
         let s = table::row_of(f);
-        let z = table::sizes_of(f);
-        let each = s.each;
         let k = content::count_for(c, body.len());
-        columns::rows_fit(answer, each, k, z.row, body)
+        columns::rows_fit(answer, s.each, k, body)
     } else {
         true
     }
@@ -67,24 +49,13 @@ fn digits_fine(f: Fields, codes: &[u8], body: &[u8]) -> bool
     requires { Counts f codes.now body.now × (has_entries (kind_for f.content) ≡ true → Lent f.content body.now) }
     ensures { result ≡ not (digit_bad f codes.now body.now) }
 {
-    let c = f.content;
-    let digits = f.digits;
-    let certificate = f.certificate;
     // In two parts: a loop of a known length is written out, and takes the array apart.
-    let used = content::digits_used(c);
-    if !all_most(&digits[0..used], 9) {
-        return false;
-    }
-    if !all_most(&digits[used..35], 9) {
-        return false;
-    }
-    if !all_most(codes, 9) {
-        return false;
-    }
-    if !all_most(&certificate, 9) {
-        return false;
-    }
-    body_fine(25, c, body)
+    let used = content::digits_used(f.content);
+    all_most(&f.digits[..used], 9)
+        && all_most(&f.digits[used..], 9)
+        && all_most(codes, 9)
+        && all_most(&f.certificate, 9)
+        && body_fine(25, f.content, body)
 }
 
 // The other digits are 0: what is not used could not be handed back.
@@ -92,7 +63,7 @@ fn digits_kept(c: Content, digits: [u8; 35]) -> bool
     ensures { result ≡ not (digits_lost c digits) }
 {
     let used = content::digits_used(c);
-    all_most(&digits[used..35], 0)
+    all_most(&digits[used..], 0)
 }
 
 // A body for a content that has none.
@@ -100,13 +71,7 @@ fn body_lost(c: Content, lent: usize) -> bool
     ensures { result ≡ body_lost (row_for c).counting lent }
 {
     let s = table::row_of(content::kind_for(c));
-    let counting = s.counting;
-    match counting {
-        Counting::Fixed => lent != 0,
-        Counting::Counted => false,
-        Counting::Raw => false,
-        Counting::Unknown => false,
-    }
+    matches!(s.counting, Counting::Fixed) && lent != 0
 }
 
 // A count above 255, or rows of w numbers that are not all that is lent.
@@ -114,10 +79,7 @@ fn rows_bad(k: usize, w: usize, lent: usize) -> bool
     requires { w ≤ 8 }
     ensures { result ≡ not (leb k 255 && eqb lent (k * w)) }
 {
-    if k > 255 {
-        return true;
-    }
-    lent != k * w
+    k > 255 || lent != k * w
 }
 
 // A count that is wrong for what is lent.
@@ -128,54 +90,31 @@ fn lent_bad(c: Content, lent: usize) -> bool
     let k = content::count_for(c, lent);
     let z = table::sizes_of(f);
     let s = table::row_of(f);
-    let counting = s.counting;
-    match counting {
-        Counting::Fixed => false,
-        Counting::Counted => rows_bad(k, z.row, lent),
-        Counting::Raw => false,
-        Counting::Unknown => false,
-    }
+    matches!(s.counting, Counting::Counted) && rows_bad(k, z.row, lent)
 }
 
 // n, k, m or t is above 255, or not that of what is lent.
 fn counts_bad(f: Fields, codes: &[u8], body: &[u8]) -> bool
     ensures { result ≡ count_bad f codes.now body.now }
 {
-    let c = f.content;
-    let n = f.codes;
-    if n > 255 {
-        return true;
-    }
-    if codes.len() != n * 23 {
-        return true;
-    }
-    lent_bad(c, body.len())
+    f.codes > 255 || codes.len() != f.codes * 23 || lent_bad(f.content, body.len())
 }
 
 // Codes for type 1, whose receivers ignore them.
 fn codes_lost(kind: u8, codes: usize) -> bool
     ensures { result ≡ (eqb kind 1 && not (eqb codes 0)) }
 {
-    if kind == 1 { codes != 0 } else { false }
+    kind == 1 && codes != 0
 }
 
 // Content of the type named, with nothing beside it that could not be handed back.
 fn nothing_lost(f: Fields, body: &[u8]) -> bool
     ensures { result ≡ not (something_lost f body.now) }
 {
-    let c = f.content;
-    let digits = f.digits;
-    let named = packet::type_of(packet::kind_of(f.typenumber));
-    if named != packet::type_of(content::kind_for(c)) {
-        return false;
-    }
-    if body_lost(c, body.len()) {
-        return false;
-    }
-    if !digits_kept(c, digits) {
-        return false;
-    }
-    !codes_lost(f.typenumber, f.codes)
+    packet::type_of(packet::kind_of(f.typenumber)) == packet::type_of(content::kind_for(f.content))
+        && !body_lost(f.content, body.len())
+        && digits_kept(f.content, f.digits)
+        && !codes_lost(f.typenumber, f.codes)
 }
 
 // Every number is in its range, and the day is one that its month has.
@@ -183,13 +122,7 @@ fn numbers_fine(c: Content, body: &[u8]) -> bool
     requires { has_entries (kind_for c) ≡ true → Lent c body.now }
     ensures { result ≡ ((own_fine c && rows_fine 27 c body.now) && not (no_such_day c)) }
 {
-    if !own_fine(c) {
-        return false;
-    }
-    if !body_fine(27, c, body) {
-        return false;
-    }
-    !packet::no_such_day(c)
+    own_fine(c) && body_fine(27, c, body) && !packet::no_such_day(c)
 }
 
 // All that answer 27 asks.
@@ -197,11 +130,7 @@ fn content_taken(f: Fields, codes: &[u8], body: &[u8]) -> bool
     requires { Counts f codes.now body.now × (has_entries (kind_for f.content) ≡ true → Lent f.content body.now) }
     ensures { result ≡ not (not_taken f codes.now body.now) }
 {
-    let c = f.content;
-    if !nothing_lost(f, body) {
-        return false;
-    }
-    numbers_fine(c, body)
+    nothing_lost(f, body) && numbers_fine(f.content, body)
 }
 
 // The size of the packet; 251, above any packet's, where a raw body is longer still.
@@ -209,23 +138,19 @@ fn size_of(f: Fields, lent: usize) -> usize
     requires { f.codes ≤ 255 }
     ensures { result ≡ cond (ltb 1000 (count_lent f.content lent)) 251 (77 + 12 * f.codes + bytes_of f.content lent) }
 {
-    let c = f.content;
-    let k = content::count_for(c, lent);
+    let k = content::count_for(f.content, lent);
     if k > 1000 {
         return 251;
     }
-    let z = table::sizes_of(content::kind_for(c));
+    let z = table::sizes_of(content::kind_for(f.content));
     77 + 12 * f.codes + (z.lead + k * z.each + z.rest) / 8
 }
 
 // Refused: nothing is written.
-fn refused(a: u8) -> Written
-    ensures { result ≡ record { answer = a; length = 0 } }
+fn refused(answer: u8) -> Written
+    ensures { result ≡ record { answer = answer; length = 0 } }
 {
-    Written {
-        answer: a,
-        length: 0,
-    }
+    Written { answer, length: 0 }
 }
 
 // What fields whose counts are right are due: 25, 27, 20 or 10.

@@ -15,5 +15,5 @@ returns-then-i-p-2 c = ap (λ (x : ℕ). x / 256) c.requires.0 ∙ carried_high 
 pub returns-then-i-p-3 : goal.returns-then-i-p-3
 returns-then-i-p-3 c = ap (λ (x : ℕ). x % 256) c.requires.0 ∙ carried_low _ _ (search rules)
 
-pub returns : goal.returns
-returns c = carried_fill c.args.packet.now c.args.i (omega arith)
+pub returns-else-i-p-3 : goal.returns-else-i-p-3
+returns-else-i-p-3 c = carried_fill c.args.packet.now c.args.i (omega arith)

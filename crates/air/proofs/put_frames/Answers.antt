@@ -22,7 +22,7 @@ slice_bounds-put_frame-start c = let f = few_total c.args.packet.now _ c.require
     omega (arith, f.0, c.requires.room, c.loop-number.invariant.kept, c.loop-number-test.true)
 
 pub put_frame-requires : goal.put_frame-requires
-put_frame-requires c = let number = c.loop-number.number.0 in
+put_frame-requires c = let number = c.loop-number.number in
     let out = c.loop-number.out in
     let f = few_total c.args.packet.now _ c.requires.short c.total_for-total.ensures in
     let t = f.0 in
@@ -31,19 +31,12 @@ put_frame-requires c = let number = c.loop-number.number.0 in
       record { level = omega arith; version = omega arith; total = omega arith; number = omega arith },
     )
 
-pub overflow_add-number : goal.overflow_add-number
-overflow_add-number c = let f = few_total c.args.packet.now _ c.requires.short c.total_for-total.ensures in
-    omega (arith, f.1, c.loop-number-test.true)
-
-pub loop-number-smaller : goal.loop-number-smaller
-loop-number-smaller c = omega arith
-
 pub loop-number-preserved : goal.loop-number-preserved
 loop-number-preserved c = let e = c.total_for-total.ensures in
     let f = few_total c.args.packet.now _ c.requires.short e in
     let t = f.0 in
     let h = c.loop-number-test.true in
-    going_turn _ _ _ _ _ c.loop-number.out c.put_frame.new.out c.loop-number.number c.loop-number.invariant h e (omega arith) c.put_frame.ensures
+    going_turn _ _ _ _ _ c.loop-number.out c.put_frame.new.out (record { 0 = c.loop-number.number }) c.loop-number.invariant h e (omega arith) c.put_frame.ensures
 
 pub shape_of-out : goal.shape_of-out
 shape_of-out c = c.loop-number.invariant.kept

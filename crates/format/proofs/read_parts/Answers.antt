@@ -11,32 +11,17 @@ pub loop-j-init : goal.loop-j-init
 unfolding at
 loop-j-init c = (omega arith, refl)
 
-pub bits_within-y-requires : goal.bits_within-y-requires
-bits_within-y-requires c = omega (arith, c.least-k.ensures)
-
-pub overflow_cast-x : goal.overflow_cast-x
-overflow_cast-x c = omega (arith, c.least-k.ensures)
-
-pub overflow_shl-x : goal.overflow_shl-x
-overflow_shl-x c = omega (arith, c.least-k.ensures)
-
 pub overflow_add-x : goal.overflow_add-x
 overflow_add-x c = let a = c.args in
     let k = c.loop-j in
-    let y = read_within a.b.now (a.p + k.j) c.least-k.result c.byte.result c.bits_within-y.result (omega (arith, c.least-k.ensures)) c.byte.ensures c.bits_within-y.ensures in
-    omega (arith, (joined a.b.now a.p k.j c.least-k.result k.x c.bits_within-y.result (omega (arith, c.least-k.ensures)) k.invariant.1 y).small)
-
-pub overflow_add-j : goal.overflow_add-j
-overflow_add-j c = omega (arith, c.least-k.ensures)
-
-pub loop-j-smaller : goal.loop-j-smaller
-loop-j-smaller c = omega (arith, c.least-k.ensures)
+    let y = read_within a.b.now (a.p + k.j) c.min-k.result c.byte.result c.bits_within-y.result (omega (arith, c.min-k.ensures)) c.byte.ensures c.bits_within-y.ensures in
+    omega (arith, (joined a.b.now a.p k.j c.min-k.result k.x c.bits_within-y.result (omega (arith, c.min-k.ensures)) k.invariant.1 y).small)
 
 pub loop-j-preserved : goal.loop-j-preserved
 loop-j-preserved c = let a = c.args in
     let k = c.loop-j in
-    let y = read_within a.b.now (a.p + k.j) c.least-k.result c.byte.result c.bits_within-y.result (omega (arith, c.least-k.ensures)) c.byte.ensures c.bits_within-y.ensures in
-    (omega (arith, c.least-k.ensures), (joined a.b.now a.p k.j c.least-k.result k.x c.bits_within-y.result (omega (arith, c.least-k.ensures)) k.invariant.1 y).is)
+    let y = read_within a.b.now (a.p + k.j) c.min-k.result c.byte.result c.bits_within-y.result (omega (arith, c.min-k.ensures)) c.byte.ensures c.bits_within-y.ensures in
+    (omega (arith, c.min-k.ensures), (joined a.b.now a.p k.j c.min-k.result k.x c.bits_within-y.result (omega (arith, c.min-k.ensures)) k.invariant.1 y).is)
 
 pub returns : goal.returns
 returns c = let e : c.loop-j.j ≡ c.args.w = omega arith in

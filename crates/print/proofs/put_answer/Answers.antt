@@ -1,45 +1,28 @@
 -- `print::put_answer`: what its goals need. Assumes nothing.
-use mathlib.Core.Path.{ap}
-use mathlib.Core.List.{List, [], ◌∷◌, ◌++◌}
-use Prim.Native.Nat.{ℕ}
+use mathlib.Core.Path.{◌≡◌, sym, ap, ap₂, ◌∙◌}
+use mathlib.Core.List.{List, [], ◌∷◌}
+use Prim.Native.Nat.{ℕ, ◌+◌}
 use native.Mathlib.Omega.{arith}
-use lib.ListN.{length-set}
-use lib.Seq.{sets}
-use Rattle.print.proofs.Laws.{one_digit, two_digits, three_digits, long_1, long_2, long_3}
+use lib.ListN.{length, set}
+use lib.Seq.{sets, length-sets}
+use Rattle.laws.proofs.Writes.{sets_append}
+use Rattle.print.specs.Lines.{decimal_of}
+use Rattle.print.specs.Letters.{number_text}
+use Rattle.print.proofs.Numbers.{decimal}
 use Rattle.print.proofs.put_answer.Goals as goal
 
-pub bounds-out-0 : goal.bounds-out-0
-bounds-out-0 c = omega (arith, long_1 c.args.answer (omega arith))
+pub put_number-end-requires : goal.put_number-end-requires
+put_number-end-requires c = let e : number_text c.from.result ≡ decimal_of c.args.answer = ap number_text c.from.ensures ∙ decimal c.args.answer (omega arith) in
+    omega (arith, ap length e, c.requires)
 
-pub bounds-out-1 : goal.bounds-out-1
-bounds-out-1 c = simp length-set (omega (arith, long_1 c.args.answer (omega arith)))
-
-pub returns-then-answer-lt10 : goal.returns-then-answer-lt10
-returns-then-answer-lt10 c = ap (λ (l : List ℕ). sets c.args.out.now 0 (l ++ (10 ∷ []))) (one_digit c.args.answer (omega arith))
-
-pub bounds-out-0-then-answer-lt100 : goal.bounds-out-0-then-answer-lt100
-bounds-out-0-then-answer-lt100 c = omega (arith, long_2 c.args.answer (omega arith) (omega arith))
-
-pub bounds-out-1-then-answer-lt100 : goal.bounds-out-1-then-answer-lt100
-bounds-out-1-then-answer-lt100 c = simp length-set (omega (arith, long_2 c.args.answer (omega arith) (omega arith)))
-
-pub bounds-out-2 : goal.bounds-out-2
-bounds-out-2 c = simp length-set (omega (arith, long_2 c.args.answer (omega arith) (omega arith)))
-
-pub returns-then-answer-lt100 : goal.returns-then-answer-lt100
-returns-then-answer-lt100 c = ap (λ (l : List ℕ). sets c.args.out.now 0 (l ++ (10 ∷ []))) (two_digits c.args.answer (omega arith) (omega arith))
-
-pub bounds-out-0-2 : goal.bounds-out-0-2
-bounds-out-0-2 c = omega (arith, long_3 c.args.answer (omega arith) (omega arith))
-
-pub bounds-out-1-2 : goal.bounds-out-1-2
-bounds-out-1-2 c = simp length-set (omega (arith, long_3 c.args.answer (omega arith) (omega arith)))
-
-pub bounds-out-2-2 : goal.bounds-out-2-2
-bounds-out-2-2 c = simp length-set (omega (arith, long_3 c.args.answer (omega arith) (omega arith)))
-
-pub bounds-out-3 : goal.bounds-out-3
-bounds-out-3 c = simp length-set (omega (arith, long_3 c.args.answer (omega arith) (omega arith)))
+pub bounds-out-end : goal.bounds-out-end
+bounds-out-end c = let e : number_text c.from.result ≡ decimal_of c.args.answer = ap number_text c.from.ensures ∙ decimal c.args.answer (omega arith) in
+    omega (arith, ap length e, c.requires, c.put_number-end.ensures.length, ap length c.put_number-end.ensures.output ∙ length-sets c.args.out.now 0 (number_text c.from.result))
 
 pub returns : goal.returns
-returns c = ap (λ (l : List ℕ). sets c.args.out.now 0 (l ++ (10 ∷ []))) (three_digits c.args.answer (omega arith) (omega arith))
+returns c = let a = c.args in
+    let t = decimal_of a.answer in
+    let e : number_text c.from.result ≡ t = ap number_text c.from.ensures ∙ decimal a.answer (omega arith) in
+    let k : c.put_number-end.result ≡ 0 + length t = omega (arith, c.put_number-end.ensures.length, ap length e) in
+    ap₂ (λ (l : List ℕ) (n : ℕ). set l n 10) (c.put_number-end.ensures.output ∙ ap (sets a.out.now 0) e) k
+    ∙ sym (sets_append t (10 ∷ []) a.out.now 0)

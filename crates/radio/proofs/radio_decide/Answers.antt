@@ -1,12 +1,9 @@
--- `radio::radio_decide`: what its goals need, field by field. Assumes nothing.
-use mathlib.Core.Path.{ap, ap₂, ◌∙◌}
-use Prim.Native.Nat.{ℕ}
-use lib.Ieee.{Float}
+-- `radio::radio_decide`: what its goals need: the product beside a refusal is plus zero. Assumes nothing.
+use mathlib.Core.Path.{ap}
+use lib.Ieee.{of_bits, of_int}
 use Rattle.radio.specs.Radio.{decided_as}
-use Rattle.radio.specs.declared.DecidedSymbol.{DecidedSymbol}
 use Rattle.radio.proofs.radio_decide.Goals as goal
 
-pub returns : goal.returns
-returns c = let d = c.decide-d.result in
-    ap₂ {C = DecidedSymbol} (λ (v : ℕ) (p : Float). record { answer = d.answer; verdict = v; product = p; state = d.state }) c.verdict_number.ensures c.product_of.ensures
-    ∙ ap decided_as c.decide-d.ensures
+pub returns-in-Err : goal.returns-in-Err
+unfolding of_bits of_int
+returns-in-Err c = rw c.number.ensures (ap decided_as c.in-Err.ensures)

@@ -2,4 +2,4 @@
 use Rattle.reader.proofs.accepted.Goals as goal
 
 pub returns : goal.returns
-returns c = rw (c.type_in-t.ensures, c.time-x.ensures, c.signature-signature.ensures)
+returns c = rw (c.type_in.ensures, c.time.ensures, c.signature.ensures)

@@ -5,4 +5,4 @@ use Rattle.reader.proofs.Telling.{answered}
 use Rattle.reader.proofs.answer.Goals as goal
 
 pub returns : goal.returns
-returns c = ap (λ (o : Opened). o.answer) c.read-o.ensures ∙ answered c.args.packet.now
+returns c = ap (λ (o : Opened). o.answer) c.read.ensures ∙ answered c.args.packet.now

@@ -3,7 +3,7 @@ use mathlib.Core.Path.{◌≡◌, refl, sym, ap, ◌∙◌}
 use native.Mathlib.Omega.{arith}
 use mathlib.Core.Bool.{cond}
 use mathlib.Core.List.{List}
-use Prim.Native.Nat.{ℕ, ◌+◌, ◌*◌}
+use Prim.Native.Nat.{min, ℕ, ◌+◌, ◌*◌}
 use lib.Seq.{sets}
 use Rattle.packet.specs.Content.{no_such_day}
 use Rattle.format.specs.Format.{times}
@@ -12,8 +12,7 @@ use Rattle.packet.specs.Reading.{numbers_at, read_answer, refused_as}
 use Rattle.reader.specs.declared.Told.{Told}
 use Rattle.reader.specs.Taking.{told_of}
 use Rattle.reader.proofs.Zeros.{length_zeros}
-use Rattle.reader.specs.Due.{lesser}
-use Rattle.reader.proofs.Due.{lesser_left}
+use Rattle.reader.proofs.Due.{min_left}
 use Rattle.reader.proofs.Telling as telling
 use Rattle.reader.proofs.lines_told.Goals as goal
 
@@ -38,11 +37,11 @@ overflow_sub-b c = let a = c.args in
     omega (arith, telling.codes_there a.f a.s a.z a.n a.k a.b.now c.requires.0)
 
 pub slice_bounds-take_digits-end : goal.slice_bounds-take_digits-end
-slice_bounds-take_digits-end c = sym (length_zeros 12 c.zeros12-certificate.result c.zeros12-certificate.ensures)
+slice_bounds-take_digits-end c = sym (length_zeros 12 c.zeros-certificate.result c.zeros-certificate.ensures)
 
 pub take_digits-good-requires : goal.take_digits-good-requires
 take_digits-good-requires c = let a = c.args in
-    (omega (arith, telling.codes_there a.f a.s a.z a.n a.k a.b.now c.requires.0), omega arith, omega (arith, length_zeros 12 c.zeros12-certificate.result c.zeros12-certificate.ensures), omega (arith, telling.most a.f a.s a.z a.n a.k a.b.now c.requires.0))
+    (omega (arith, telling.codes_there a.f a.s a.z a.n a.k a.b.now c.requires.0), omega arith, omega (arith, length_zeros 12 c.zeros-certificate.result c.zeros-certificate.ensures), omega (arith, telling.most a.f a.s a.z a.n a.k a.b.now c.requires.0))
 
 pub shape_of-codes-then-a-ne0 : goal.shape_of-codes-then-a-ne0
 shape_of-codes-then-a-ne0 c = let a = c.args in
@@ -66,7 +65,7 @@ returns-then-a-ne0 c = let a = c.args in
     let t = c.take_content-c.ensures in
     let j = telling.packet_due a.f a.s a.z a.n a.k b h c.take_codes-first.result c.take_content-c.result.due _ c.take_digits-good.result c.take_digits-good.ensures.1 c.take_codes-first.ensures.1 t.1 refl in
     let content = telling.content_is a.f a.s a.z a.n a.k b h c.take_content-c.result.content t.0 in
-    let answer : c.lines_answer-a.result ≡ read_answer b = telling.answer_is a.f a.s a.z a.n a.k b h _ (c.lines_answer-a.ensures ∙ telling.says b _ c.no_such_day.result j (omega (arith, c.take_codes-first, lesser_left (lesser c.take_codes-first.result (cond c.take_digits-good.result 255 25)) c.take_content-c.result.due, lesser_left c.take_codes-first.result (cond c.take_digits-good.result 255 25))) (c.no_such_day.ensures ∙ ap no_such_day content)) in
+    let answer : c.lines_answer-a.result ≡ read_answer b = telling.answer_is a.f a.s a.z a.n a.k b h _ (c.lines_answer-a.ensures ∙ telling.says b _ c.no_such_day.result j (omega (arith, c.take_codes-first, min_left (min c.take_codes-first.result (cond c.take_digits-good.result 255 25)) c.take_content-c.result.due, min_left c.take_codes-first.result (cond c.take_digits-good.result 255 25))) (c.no_such_day.ensures ∙ ap no_such_day content)) in
     let long = telling.long_all _ _ _ _ _ _ (numbers_at (times a.n code) b 24) a.f a.k (24 + 96 * a.n) b c.requires.1 c.take_codes-first.ensures.0 c.take_content-c.ensures.2 in
     let no = c.if-a-ne0.true in
     let x = ap (λ (t : Told). t.answer) c.refused.ensures in
@@ -98,7 +97,7 @@ returns c = let a = c.args in
     let t = c.take_content-c.ensures in
     let j = telling.packet_due a.f a.s a.z a.n a.k b h c.take_codes-first.result c.take_content-c.result.due _ c.take_digits-good.result c.take_digits-good.ensures.1 c.take_codes-first.ensures.1 t.1 refl in
     let content = telling.content_is a.f a.s a.z a.n a.k b h c.take_content-c.result.content t.0 in
-    let answer : c.lines_answer-a.result ≡ read_answer b = telling.answer_is a.f a.s a.z a.n a.k b h _ (c.lines_answer-a.ensures ∙ telling.says b _ c.no_such_day.result j (omega (arith, c.take_codes-first, lesser_left (lesser c.take_codes-first.result (cond c.take_digits-good.result 255 25)) c.take_content-c.result.due, lesser_left c.take_codes-first.result (cond c.take_digits-good.result 255 25))) (c.no_such_day.ensures ∙ ap no_such_day content)) in
+    let answer : c.lines_answer-a.result ≡ read_answer b = telling.answer_is a.f a.s a.z a.n a.k b h _ (c.lines_answer-a.ensures ∙ telling.says b _ c.no_such_day.result j (omega (arith, c.take_codes-first, min_left (min c.take_codes-first.result (cond c.take_digits-good.result 255 25)) c.take_content-c.result.due, min_left c.take_codes-first.result (cond c.take_digits-good.result 255 25))) (c.no_such_day.ensures ∙ ap no_such_day content)) in
     let long = telling.long_all _ _ _ _ _ _ (numbers_at (times a.n code) b 24) a.f a.k (24 + 96 * a.n) b c.requires.1 c.take_codes-first.ensures.0 c.take_content-c.ensures.2 in
     let zero : c.lines_answer-a.result ≡ 0 = c.if-a-ne0.false in
     let x : c.accepted.result.answer ≡ 0 = ap (λ (t : Told). t.answer) c.accepted.ensures in
@@ -106,7 +105,7 @@ returns c = let a = c.args in
       due = x ∙ sym zero ∙ answer;
       said =
           λ e. record {
-            told_is = c.accepted.ensures ∙ telling.told_all b _ _ _ h.many content (telling.certificate_is a.f a.s a.z a.n a.k b h c.zeros12-certificate.result _ c.zeros12-certificate.ensures c.take_digits-good.ensures.0);
+            told_is = c.accepted.ensures ∙ telling.told_all b _ _ _ h.many content (telling.certificate_is a.f a.s a.z a.n a.k b h c.zeros-certificate.result _ c.zeros-certificate.ensures c.take_digits-good.ensures.0);
             codes_are = telling.codes_are a.f a.s a.z a.n a.k b h _ (c.take_codes-first.ensures.0 ∙ ap (λ (l : List ℕ). sets l 0 (numbers_at (times a.n code) b 24)) c.requires.1.codes_none);
             entries_are = telling.entries_are a.f a.s a.z a.n a.k b h _ _ t.2;
             digits_are = telling.digits_told b _ (telling.digits_are a.f a.s a.z a.n a.k b h _ _ t.2);

@@ -8,7 +8,7 @@ use Rattle.reader.proofs.Telling.{opened_none, all_filled, kept_so, opens_so}
 use Rattle.reader.proofs.read_to.Goals as goal
 
 pub filled-t-requires : goal.filled-t-requires
-filled-t-requires c = record { codes_none = c.zeros322.ensures; entries_none = c.zeros272.ensures; digits_none = c.zeros35.ensures }
+filled-t-requires c = record { codes_none = c.zeros.ensures; entries_none = c.zeros-2.ensures; digits_none = c.zeros-3.ensures }
 
 pub returns-then-t-ne0 : goal.returns-then-t-ne0
 returns-then-t-ne0 c = let a = c.args in

@@ -4,4 +4,4 @@ use Rattle.reader.proofs.refused.Goals as goal
 
 pub returns : goal.returns
 unfolding no_fields
-returns c = rw (c.zeros12-y.ensures, c.zeros64-s.ensures)
+returns c = rw (c.zeros.ensures, c.zeros-2.ensures)

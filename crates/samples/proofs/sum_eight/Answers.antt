@@ -11,18 +11,16 @@ use Rattle.samples.proofs.sum_eight.Goals as goal
 
 pub loop-k-init : goal.loop-k-init
 unfolding of_bits of_int total
-loop-k-init c = (omega arith, refl)
+loop-k-init c = refl
 
 pub loop-k-preserved : goal.loop-k-preserved
 loop-k-preserved c = let e = c in
-    let l = c.loop-k in (
-      omega arith,
-      ap (λ (t : Float). add binary64 t (get_or e.args.symbol.now (e.args.from + 2 * l.k) nan)) l.invariant.1
-          ∙ total_more e.args.symbol.now e.args.from l.k e.requires.t (omega arith) (omega arith),
-    )
+    let l = c.loop-k in
+      ap (λ (t : Float). add binary64 t (get_or e.args.symbol.now (e.args.from + 2 * l.k) nan)) l.invariant
+          ∙ total_more e.args.symbol.now e.args.from l.k e.requires.t (omega arith) (omega arith)
 
 pub returns : goal.returns
 returns c = let e = c in
     let l = c.loop-k in
     let h : l.k ≡ 8 = omega arith in
-    l.invariant.1 ∙ ap (λ (k : ℕ). of_whole (total e.args.symbol.now e.args.from k)) h
+    l.invariant ∙ ap (λ (k : ℕ). of_whole (total e.args.symbol.now e.args.from k)) h

@@ -1,60 +1,25 @@
 -- `print::letters::put_letter`: what its goals need. Assumes nothing.
-use mathlib.Core.Path.{refl}
+use mathlib.Core.Path.{ap, ◌∙◌}
+use Prim.Native.Nat.{ℕ, ◌+◌, ◌-◌, ◌≤◌}
 use native.Mathlib.Omega.{arith}
-use lib.ListN.{length-set}
-use Rattle.print.specs.Letters.{letter_text}
-use Rattle.print.proofs.Numbers.{put_two, put_three}
+use native.Mathlib.Numerals.{add-one}
+use borrow.Author.Rules.{rules}
+use lib.ListN.{length, set, length-set}
+use lib.Seq.{sets}
+use Rattle.std.specs.Prelude.{Some}
+use Rattle.laws.proofs.Parts.{in_place}
+use Rattle.print.proofs.LetterLine.{letter_short}
 use Rattle.print.proofs.letters.put_letter.Goals as goal
 
-pub bounds-out-at-in-A : goal.bounds-out-at-in-A
-bounds-out-at-in-A c = simp length-set (omega arith)
+pub slice_bounds-copy_from_slice-end : goal.slice_bounds-copy_from_slice-end
+slice_bounds-copy_from_slice-end c = let a = c.args in
+    let l : a.at + 1 + length c.name_of-name.result.now ≤ length (set a.out.now a.at 32) = omega (arith, letter_short (Some a.letter), ap length c.name_of-name.ensures, length-set a.out.now a.at 32) in
+    search (rules, l)
 
-pub bounds-out-at-in-B : goal.bounds-out-at-in-B
-bounds-out-at-in-B c = simp length-set (omega arith)
-
-pub bounds-out-at-in-C : goal.bounds-out-at-in-C
-bounds-out-at-in-C c = simp length-set (omega arith)
-
-pub bounds-out-at-in-D : goal.bounds-out-at-in-D
-bounds-out-at-in-D c = simp length-set (omega arith)
-
-pub bounds-out-at-in-CPrime : goal.bounds-out-at-in-CPrime
-bounds-out-at-in-CPrime c = simp length-set (omega arith)
-
-pub bounds-out-at-in-CPrime-2 : goal.bounds-out-at-in-CPrime-2
-bounds-out-at-in-CPrime-2 c = simp length-set (omega arith)
-
-pub returns-in-A : goal.returns-in-A
-unfolding letter_text
-returns-in-A c = record {
-  length = rw c.in-A.is refl;
-  output = rw c.in-A.is (put_two c.args.out.now c.args.at 32 65);
-}
-
-pub returns-in-B : goal.returns-in-B
-unfolding letter_text
-returns-in-B c = record {
-  length = rw c.in-B.is refl;
-  output = rw c.in-B.is (put_two c.args.out.now c.args.at 32 66);
-}
-
-pub returns-in-C : goal.returns-in-C
-unfolding letter_text
-returns-in-C c = record {
-  length = rw c.in-C.is refl;
-  output = rw c.in-C.is (put_two c.args.out.now c.args.at 32 67);
-}
-
-pub returns-in-D : goal.returns-in-D
-unfolding letter_text
-returns-in-D c = record {
-  length = rw c.in-D.is refl;
-  output = rw c.in-D.is (put_two c.args.out.now c.args.at 32 68);
-}
-
-pub returns-in-CPrime : goal.returns-in-CPrime
-unfolding letter_text
-returns-in-CPrime c = record {
-  length = rw c.in-CPrime.is refl;
-  output = rw c.in-CPrime.is (put_three c.args.out.now c.args.at 32 67 39);
-}
+pub returns-clause-output : goal.returns-clause-output
+returns-clause-output c = let a = c.args in
+    let name = c.name_of-name.result.now in
+    let o = set a.out.now a.at 32 in
+    in_place o name c.copy_from_slice.new.self (a.at + 1) (a.at + 1 + length name - (a.at + 1)) (omega arith) (omega (arith, letter_short (Some a.letter), ap length c.name_of-name.ensures, length-set a.out.now a.at 32)) c.copy_from_slice.ensures.after
+    ∙ ap (λ (n : ℕ). sets o n name) (add-one a.at)
+    ∙ ap (sets a.out.now a.at) c.name_of-name.ensures

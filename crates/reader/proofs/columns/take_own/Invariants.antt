@@ -1,7 +1,7 @@
 -- `reader::columns::take_own`: what its goals need. Assumes nothing.
 use mathlib.Core.Path.{◌≡◌}
-use Prim.Native.Nat.{ℕ, ◌≤◌, ◌-◌, ◌+◌, ◌*◌}
-use lib.ListN.{length, take, drop}
+use Prim.Native.Nat.{ℕ, ◌≤◌, ◌+◌, ◌*◌}
+use lib.ListN.{take, drop}
 use lib.Seq.{sets}
 use Rattle.laws.specs.Bits.{bits}
 use Rattle.format.specs.Format.{size, need, decode, fine}
@@ -11,9 +11,6 @@ use Rattle.reader.proofs.Due.{Going}
 use Rattle.reader.proofs.columns.take_own.Given as goal
 
 abbrev pub invariant-loop-j : goal.invariant-loop-j
-invariant-loop-j l = (l.j ≤ l.m) × (l.q ≡ l.p + size (take l.j (take l.m (drop l.from every_line)))) × (l.i ≡ need (take l.j (take l.m (drop l.from every_line)))) × (l.q ≤ l.p + 2048 * l.j) × (l.i ≤ 64 * l.j) × (length l.out ≡ length l.initial.out)
-    × (sets l.initial.out 0 (numbers_at (take l.m (drop l.from every_line)) l.b l.p) ≡ sets l.out l.i (numbers_at (drop l.j (take l.m (drop l.from every_line))) l.b l.q))
-    × Going (λ (k : ℕ). fine k (take l.m (drop l.from every_line)) (decode (take l.m (drop l.from every_line)) (bits l.b) l.p)) (λ (k : ℕ). fine k (drop l.j (take l.m (drop l.from every_line))) (decode (drop l.j (take l.m (drop l.from every_line))) (bits l.b) l.q)) l.d
-
-abbrev pub decreases-loop-j : goal.decreases-loop-j
-decreases-loop-j l = l.m - l.j
+invariant-loop-j l = (l.place ≡ l.p + size (take l.j (take l.m (drop l.from every_line)))) × (l.numbers ≡ need (take l.j (take l.m (drop l.from every_line)))) × (l.place ≤ l.p + 2048 * l.j) × (l.numbers ≤ 64 * l.j)
+    × (sets l.initial.out 0 (numbers_at (take l.m (drop l.from every_line)) l.b l.p) ≡ sets l.out l.numbers (numbers_at (drop l.j (take l.m (drop l.from every_line))) l.b l.place))
+    × Going (λ (k : ℕ). fine k (take l.m (drop l.from every_line)) (decode (take l.m (drop l.from every_line)) (bits l.b) l.p)) (λ (k : ℕ). fine k (drop l.j (take l.m (drop l.from every_line))) (decode (drop l.j (take l.m (drop l.from every_line))) (bits l.b) l.place)) l.due

@@ -14,18 +14,18 @@ use Rattle.reader.proofs.parts.count.Goals as goal
 counted : (f : Kind) (r : RowLines) → r ≡ row_at f → r.counting ≡ (row_of f).counting
 counted f r e = (stands f e).same
 
-pub overflow_mul-codes_count : goal.overflow_mul-codes_count
-overflow_mul-codes_count c = omega (arith, c.codes_count.ensures.1)
+pub overflow_mul-at : goal.overflow_mul-at
+overflow_mul-at c = omega (arith, c.codes_count.ensures.1)
 
-pub overflow_add-codes_count : goal.overflow_add-codes_count
-overflow_add-codes_count c = omega (arith, c.codes_count.ensures.1)
+pub overflow_add-at : goal.overflow_add-at
+overflow_add-at c = omega (arith, c.codes_count.ensures.1)
 
-pub overflow_add-codes_count-2 : goal.overflow_add-codes_count-2
-overflow_add-codes_count-2 c = omega (arith, c.codes_count.ensures.1, (whole.sizes c.kind-f.result c.sizes_of-z.result c.sizes_of-z.ensures).lead_most)
+pub overflow_add-at-2 : goal.overflow_add-at-2
+overflow_add-at-2 c = omega (arith, c.codes_count.ensures.1, (whole.sizes c.kind-f.result c.sizes_of.result c.sizes_of.ensures).lead_most)
 
 pub count_at-requires : goal.count_at-requires
-count_at-requires c = omega (arith, c.codes_count.ensures.1, (whole.sizes c.kind-f.result c.sizes_of-z.result c.sizes_of-z.ensures).lead_most)
+count_at-requires c = omega (arith, c.codes_count.ensures.1, (whole.sizes c.kind-f.result c.sizes_of.result c.sizes_of.ensures).lead_most)
 
 pub returns : goal.returns
 returns c = c.count_at.ensures
-    ∙ whole.count_is c.args.b.now c.kind-f.result _ c.codes_count.result c.content_size.result _ c.kind-f.ensures c.codes_count.ensures.0 c.content_size.ensures (counted c.kind-f.result c.row_of-s.result c.row_of-s.ensures) (ap (λ (x : ℕ). 16 + 96 * c.codes_count.result + x) (whole.sizes c.kind-f.result c.sizes_of-z.result c.sizes_of-z.ensures).lead)
+    ∙ whole.count_is c.args.b.now c.kind-f.result _ c.codes_count.result c.content_size.result _ c.kind-f.ensures c.codes_count.ensures.0 c.content_size.ensures (counted c.kind-f.result c.row_of.result c.row_of.ensures) (ap (λ (x : ℕ). 16 + 96 * c.codes_count.result + x) (whole.sizes c.kind-f.result c.sizes_of.result c.sizes_of.ensures).lead)

@@ -7,5 +7,5 @@ use Rattle.reader.proofs.Whole as whole
 use Rattle.reader.proofs.parts.lead.Goals as goal
 
 pub returns : goal.returns
-returns c = let y = whole.sizes c.kind.result c.sizes_of-z.result c.sizes_of-z.ensures in
+returns c = let y = whole.sizes c.kind.result c.sizes_of.result c.sizes_of.ensures in
     (y.lead ∙ ap (λ (f : Kind). part_at (row_of f)) c.kind.ensures, y.lead_most)

@@ -3,7 +3,7 @@ use mathlib.Core.Path.{◌≡◌, refl, sym, ap, ap₂, ◌∙◌}
 use native.Mathlib.Omega.{arith}
 use mathlib.Core.List.{List, [], ◌++◌}
 use mathlib.Core.Bool.{cond}
-use Prim.Native.Nat.{ℕ, ◌+◌, ◌-◌, ◌*◌, ◌/◌}
+use Prim.Native.Nat.{min, ℕ, ◌+◌, ◌-◌, ◌*◌, ◌/◌}
 use lib.ListN.{length, take, drop}
 use lib.Seq.{length-sets}
 use lib.Dec.{ltb}
@@ -19,7 +19,6 @@ use Rattle.packet.specs.Reading.{part_at, numbers_at, zeros, padded}
 use Rattle.packet.proofs.Columns.{columned}
 use Rattle.packet.proofs.Good.{good}
 use Rattle.packet.proofs.Spans.{parted, stands}
-use Rattle.reader.specs.Due.{lesser}
 use Rattle.reader.proofs.Contents as contents
 use Rattle.reader.proofs.Zeros.{kept, length_zeros}
 use Rattle.reader.proofs.Taking as taking
@@ -115,9 +114,9 @@ returns c = let a = c.args in
     let r : a.q + a.z.lead + a.k * a.z.each ≡ a.q + a.z.lead + a.k * size (row_of a.f).each = ap (λ (x : ℕ). a.q + a.z.lead + a.k * x) Z.each in
     let t : a.q + a.z.lead ≡ a.q + part_at (row_of a.f) = ap (λ (x : ℕ). a.q + x) Z.lead in
     let back : a.q + a.z.lead + a.k * a.z.each ≡ a.q + (part_at (row_of a.f) + a.k * size (row_of a.f).each) = r ∙ omega (arith, t) in
-    let due : c.least-d.result ≡ lesser (lesser c.take_own-own.result.due c.take_rows-first.result) (lesser c.take_entries-rows.result c.take_rows-last.result) = c.least-d.ensures ∙ ap₂ lesser c.least.ensures c.least-2.ensures in (
+    let due : c.min-3.result ≡ min (min c.take_own-own.result.due c.take_rows-first.result) (min c.take_entries-rows.result c.take_rows-last.result) = c.min-3.ensures ∙ ap₂ min c.min.ensures c.min-2.ensures in (
       c.named-content.ensures ∙ taking.content_named a.f B a.q c.take_own-own.new.out a.k h.known mine,
-      contents.held_due a.f a.k (bits B) a.q (take a.s.own (drop a.s.before.from every_line)) (lines_in L) (lines_in a.s.each) (lines_in a.s.after) c.take_own-own.result.place (a.q + a.z.lead) (a.q + a.z.lead + a.k * a.z.each) (L.bits / 8 * 8) (a.s.after.bits / 8 * 8) _ _ _ _ c.least-d.result P.own en S.rows.lines S.last.lines own.2 t r own.1 c.take_rows-first.ensures.1 c.take_entries-rows.ensures.1 c.take_rows-last.ensures.1 due,
+      contents.held_due a.f a.k (bits B) a.q (take a.s.own (drop a.s.before.from every_line)) (lines_in L) (lines_in a.s.each) (lines_in a.s.after) c.take_own-own.result.place (a.q + a.z.lead) (a.q + a.z.lead + a.k * a.z.each) (L.bits / 8 * 8) (a.s.after.bits / 8 * 8) _ _ _ _ c.min-3.result P.own en S.rows.lines S.last.lines own.2 t r own.1 c.take_rows-first.ensures.1 c.take_entries-rows.ensures.1 c.take_rows-last.ensures.1 due,
       record {
         digits_are = taking.digits_joined a.f B a.q (lines_in L) (lines_in a.s.after) a.digits.now c.take_rows-first.new.out c.take_rows-last.new.out c.take_own-own.result.place L.numbers (L.bits / 8 * 8) a.s.after.numbers (a.s.after.bits / 8 * 8) (a.z.first - c.take_own-own.result.numbers) (a.q + a.z.lead + a.k * a.z.each) en S.last.lines h.none place ei c.take_rows-first.ensures.0 c.take_rows-last.ensures.0 ∙ ap (λ (x : ℕ). padded 35 (drop (numbers_in a.f) (numbers_at (row_of a.f).before B a.q) ++ numbers_at (row_of a.f).after B x)) back;
         entries_are = c.take_entries-rows.ensures.0 ∙ rw (h.also_none, S.rows.lines, t, contents.has_entries_lem a.f a.s h.row);

@@ -1,10 +1,6 @@
 -- `writer::columns::put_numbers`: what its goals need. Assumes nothing.
-use Prim.Native.Nat.{◌-◌}
 use Rattle.writer.proofs.Line.{Going}
 use Rattle.writer.proofs.columns.put_numbers.Given as goal
 
 abbrev pub invariant-loop-j : goal.invariant-loop-j
 invariant-loop-j l = Going l.initial.out l.p l.t l.xs l.i l.out l.q l.j
-
-abbrev pub decreases-loop-j : goal.decreases-loop-j
-decreases-loop-j l = l.t.count - l.j

@@ -10,21 +10,21 @@ use Rattle.writer.proofs.Beside.{going_first, going_turn, going_last}
 use Rattle.writer.proofs.columns.put_rows.Goals as goal
 
 pub loop-j-init : goal.loop-j-init
-loop-j-init c = let a = c.args in going_first a.out.now a.p a.ts a.n a.s a.w a.xs.now c.requires.0 c.requires.1
+loop-j-init c = let a = c.args in going_first a.out.now a.p a.ts a.n a.ts.bits a.ts.numbers a.xs.now c.requires.0 c.requires.1
 
-pub overflow_add-from : goal.overflow_add-from
-overflow_add-from c = omega (arith, c.requires.0.few.1, laws.every_few)
+pub overflow_add-ts : goal.overflow_add-ts
+overflow_add-ts c = omega (arith, c.requires.0.few.1, laws.every_few)
 
-pub put_column-requires : goal.put_column-requires
-put_column-requires c = let a = c.args in
+pub put-requires : goal.put-requires
+put-requires c = let a = c.args in
     let h = c.requires in
     let k = c.loop-j in
-    (a_column a.ts a.n a.w a.xs.now a.p h.0 k.i k.j c.line_at-t.result (omega arith) c.line_at-t.ensures k.invariant.room, omega (arith, k.invariant.sizes, h.0.place, h.0.short, h.1), omega (arith, h.0.short, h.1))
+    (a_column a.ts a.n a.ts.numbers a.xs.now a.p h.0 k.i k.j c.line_at-line.result (omega arith) c.line_at-line.ensures k.invariant.room, omega (arith, k.invariant.sizes, h.0.place, h.0.short, h.1), omega (arith, h.0.short, h.1))
 
 pub width-q-requires : goal.width-q-requires
 width-q-requires c = let a = c.args in
     let k = c.loop-j in
-    (laws.turn_at a.ts.from a.ts.m k.j c.line_at-t.result c.requires.0.few.1 (omega arith) c.line_at-t.ensures).good
+    (laws.turn_at a.ts.from a.ts.m k.j c.line_at-line.result c.requires.0.few.1 (omega arith) c.line_at-line.ensures).good
 
 pub overflow_add-q : goal.overflow_add-q
 overflow_add-q c = omega (arith, c.width-q.ensures.1, c.loop-j.invariant.sizes, c.requires.0.place, c.requires.0.short, c.requires.1)
@@ -32,29 +32,29 @@ overflow_add-q c = omega (arith, c.width-q.ensures.1, c.loop-j.invariant.sizes, 
 pub overflow_add-i : goal.overflow_add-i
 overflow_add-i c = let a = c.args in
     let k = c.loop-j in
-    let d = a_column a.ts a.n a.w a.xs.now a.p c.requires.0 k.i k.j c.line_at-t.result (omega arith) c.line_at-t.ensures k.invariant.room in
+    let d = a_column a.ts a.n a.ts.numbers a.xs.now a.p c.requires.0 k.i k.j c.line_at-line.result (omega arith) c.line_at-line.ensures k.invariant.room in
     omega (arith, d.inside, d.narrow, c.taken-i.ensures)
 
 pub loop-j-preserved : goal.loop-j-preserved
 loop-j-preserved c = let a = c.args in
     let k = c.loop-j in
-    let t = c.line_at-t.result in
-    let u = laws.turn_at a.ts.from a.ts.m k.j t c.requires.0.few.1 (omega arith) c.line_at-t.ensures in
-    let d = a_column a.ts a.n a.w a.xs.now a.p c.requires.0 k.i k.j t (omega arith) c.line_at-t.ensures k.invariant.room in
-    going_turn (lines_in a.ts) k.j (octets 0) t u.inside u.same a.out.now a.p a.s a.n a.w a.xs.now a.ts.m k.out c.put_column.new.out k.q k.i c.width-q.result c.taken-i.result d (omega arith) k.invariant c.put_column.ensures c.width-q.ensures.0 c.taken-i.ensures
+    let t = c.line_at-line.result in
+    let u = laws.turn_at a.ts.from a.ts.m k.j t c.requires.0.few.1 (omega arith) c.line_at-line.ensures in
+    let d = a_column a.ts a.n a.ts.numbers a.xs.now a.p c.requires.0 k.i k.j t (omega arith) c.line_at-line.ensures k.invariant.room in
+    going_turn (lines_in a.ts) k.j (octets 0) t u.inside u.same a.out.now a.p a.ts.bits a.n a.ts.numbers a.xs.now a.ts.m k.out c.put.new.out k.q k.i c.width-q.result c.taken-i.result d (omega arith) k.invariant c.put.ensures c.width-q.ensures.0 c.taken-i.ensures
 
 pub overflow_mul-result : goal.overflow_mul-result
 overflow_mul-result c = let a = c.args in
     let h = c.requires in
-    let s : a.s ≤ 160 = omega (arith, h.0.short, h.1) in
-    let m : a.n * a.s ≤ 40800 = le_trans (mul-le-mul_left a.n s) (omega (arith, h.0.count)) in
+    let s : a.ts.bits ≤ 160 = omega (arith, h.0.short, h.1) in
+    let m : a.n * a.ts.bits ≤ 40800 = le_trans (mul-le-mul_left a.n s) (omega (arith, h.0.count)) in
     omega (arith, m)
 
 pub overflow_add-result : goal.overflow_add-result
 overflow_add-result c = let a = c.args in
     let h = c.requires in
-    let s : a.s ≤ 160 = omega (arith, h.0.short, h.1) in
-    let m : a.n * a.s ≤ 40800 = le_trans (mul-le-mul_left a.n s) (omega (arith, h.0.count)) in
+    let s : a.ts.bits ≤ 160 = omega (arith, h.0.short, h.1) in
+    let m : a.n * a.ts.bits ≤ 40800 = le_trans (mul-le-mul_left a.n s) (omega (arith, h.0.count)) in
     omega (arith, m, h.0.place)
 
 pub shape_of-out : goal.shape_of-out
@@ -64,4 +64,4 @@ pub returns : goal.returns
 returns c = let a = c.args in
     let h = c.requires in
     let k = c.loop-j in
-    going_last a.out.now a.p a.ts a.n a.s a.w a.xs.now k.out k.q k.i k.j h.0 h.1 (laws.lines_end a.ts.from a.ts.m k.j h.0.few.1 (omega arith)) k.invariant
+    going_last a.out.now a.p a.ts a.n a.ts.bits a.ts.numbers a.xs.now k.out k.q k.i k.j h.0 h.1 (laws.lines_end a.ts.from a.ts.m k.j h.0.few.1 (omega arith)) k.invariant

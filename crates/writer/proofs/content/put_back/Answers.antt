@@ -10,8 +10,8 @@ use Rattle.writer.proofs.Parted.{told, back_none, back_rows, back_put}
 use borrow.Author.Rules.{rules}
 use Rattle.writer.proofs.content.put_back.Goals as goal
 
-pub returns-then-after-eq0 : goal.returns-then-after-eq0
-returns-then-after-eq0 c = let a = c.args in back_none a.c a.s c.requires.0 a.digits.now a.out.now a.p c.if-after-eq0.true
+pub returns-then-s-eq0 : goal.returns-then-s-eq0
+returns-then-s-eq0 c = let a = c.args in back_none a.c a.s c.requires.0 a.digits.now a.out.now a.p c.if-s-eq0.true
 
 pub slice_bounds-put_rows-end : goal.slice_bounds-put_rows-end
 slice_bounds-put_rows-end c = let a = c.args in

@@ -32,18 +32,18 @@ put_rows-requires c = let x = c.args in
 pub put_octets-requires : goal.put_octets-requires
 put_octets-requires c = let x = c.args in
     let h = c.requires in
-    let n : has_entries (kind_for x.c) ≡ false = sym (told (kind_for x.c) h.0).each_lines ∙ le-ltb 1 x.s.each.m c.if-each-gt1.false in
+    let n : has_entries (kind_for x.c) ≡ false = sym (told (kind_for x.c) h.0).each_lines ∙ le-ltb 1 x.s.each.m c.if-s-gt1.false in
     ((octets_body x.c x.body.now h.2 n).2, omega (arith, h.3))
 
-pub returns-then-each-gt1 : goal.returns-then-each-gt1
-returns-then-each-gt1 c = let x = c.args in
+pub returns-then-s-gt1 : goal.returns-then-s-gt1
+returns-then-s-gt1 c = let x = c.args in
     let h = c.requires in
     entries_body x.c x.out.now c.put_rows.new.out x.body.now x.k x.p c.put_rows.result h.2 h.1 (have_put_rows x.s.each (row_for x.c).each (stands (kind_for x.c) h.0).rows x.out.now c.put_rows.new.out x.body.now x.k x.p c.put_rows.result c.put_rows.ensures)
 
-pub returns-else-each-gt1 : goal.returns-else-each-gt1
-returns-else-each-gt1 c = let x = c.args in
+pub returns-else-s-gt1 : goal.returns-else-s-gt1
+returns-else-s-gt1 c = let x = c.args in
     let h = c.requires in
-    let n : has_entries (kind_for x.c) ≡ false = sym (told (kind_for x.c) h.0).each_lines ∙ le-ltb 1 x.s.each.m c.if-each-gt1.false in
+    let n : has_entries (kind_for x.c) ≡ false = sym (told (kind_for x.c) h.0).each_lines ∙ le-ltb 1 x.s.each.m c.if-s-gt1.false in
     let o = octets_body x.c x.body.now h.2 n in
     subst (λ (s : ℕ). After x.out.now c.put_octets.new.out x.p (body_bits x.c x.body.now) c.put_octets.result s) o.1
     (subst (λ (v : List ℕ). After x.out.now c.put_octets.new.out x.p v c.put_octets.result (8 * length x.body.now)) o.0 c.put_octets.ensures)

@@ -23,8 +23,8 @@ put_own-q-requires c = (c.requires.0, c.requires.2)
 pub overflow_sub-q : goal.overflow_sub-q
 overflow_sub-q c = omega (arith, c.put_own-q.ensures.place)
 
-pub overflow_sub-before : goal.overflow_sub-before
-overflow_sub-before c = let x = c.args.c in
+pub overflow_sub-s : goal.overflow_sub-s
+overflow_sub-s c = let x = c.args.c in
     omega (arith, c.put_own-q.ensures.place, first_size x, (told (kind_for x) c.requires.0.row).first_bits)
 
 pub put_beside-e-requires : goal.put_beside-e-requires

@@ -1,36 +1,17 @@
 -- `writer::packets::put_time`: what its goals need. Assumes nothing.
-use mathlib.Core.Path.{◌∙◌}
-use Prim.Native.Nat.{◌+◌, ◌/◌, ◌%◌, ◌<◌}
+use mathlib.Core.Path.{◌≡◌, ap, ◌∙◌}
+use mathlib.Core.List.{List}
+use Prim.Native.Nat.{ℕ, ◌*◌}
 use native.Mathlib.Omega.{arith}
-use lib.ListN.{length, set, length-set}
-use Rattle.writer.proofs.Straight.{time_put}
+use mir.Syntax.{w32}
 use borrow.Author.Rules.{rules}
+use Rattle.std.specs.Int.{to_be_bytes}
+use lib.Seq.{sets}
+use Rattle.laws.specs.Bits.{bits, spread}
+use Rattle.writer.proofs.Straight.{time_bits}
 use Rattle.writer.proofs.packets.put_time.Goals as goal
 
-pub bounds-out-k-2 : goal.bounds-out-k-2
-bounds-out-k-2 c = let a = c.args in
-    let l : a.k + 1 < length (set a.out.now a.k (a.time / 16777216)) = omega (arith, c.requires, length-set a.out.now a.k (a.time / 16777216)) in
-    search (rules, l)
-
-pub bounds-out-k-3 : goal.bounds-out-k-3
-bounds-out-k-3 c = let a = c.args in
-    let u = set a.out.now a.k (a.time / 16777216) in
-    let l : a.k + 2 < length (set u (a.k + 1) (a.time / 65536 % 256)) = omega (arith, c.requires, length-set u (a.k + 1) (a.time / 65536 % 256), length-set a.out.now a.k (a.time / 16777216)) in
-    search (rules, l)
-
-pub bounds-out-k-4 : goal.bounds-out-k-4
-bounds-out-k-4 c = let a = c.args in
-    let u = set a.out.now a.k (a.time / 16777216) in
-    let v = set u (a.k + 1) (a.time / 65536 % 256) in
-    let l : a.k + 3 < length (set v (a.k + 2) (a.time / 256 % 256)) = omega (arith, c.requires, length-set v (a.k + 2) (a.time / 256 % 256), length-set u (a.k + 1) (a.time / 65536 % 256), length-set a.out.now a.k (a.time / 16777216)) in
-    search (rules, l)
-
-pub shape_of-out : goal.shape_of-out
-shape_of-out c = let a = c.args in
-    let u = set a.out.now a.k (a.time / 16777216) in
-    let v = set u (a.k + 1) (a.time / 65536 % 256) in
-    let w = set v (a.k + 2) (a.time / 256 % 256) in
-    length-set w (a.k + 3) (a.time % 256) ∙ length-set v (a.k + 2) (a.time / 256 % 256) ∙ length-set u (a.k + 1) (a.time / 65536 % 256) ∙ length-set a.out.now a.k (a.time / 16777216)
-
 pub returns : goal.returns
-returns c = let a = c.args in time_put a.out.now a.k a.time (omega arith)
+returns c = let a = c.args in
+    let e : c.to_be_bytes.result ≡ to_be_bytes w32 a.time = search rules in
+    c.put_bytes.ensures ∙ ap (λ (d : List ℕ). sets (bits a.out.now) (a.k * 8) (spread 8 d)) e ∙ ap (sets (bits a.out.now) (a.k * 8)) (time_bits a.time (omega arith))

@@ -1,12 +1,7 @@
 -- `writer::puts::put_lines`: what its goals need. Assumes nothing.
-use Prim.Native.Nat.{◌-◌}
-use lib.ListN.{take, drop}
-use Rattle.packet.specs.InCode.{every_line}
+use Rattle.packet.specs.InCode.{lines_in}
 use Rattle.writer.proofs.Lines.{Going}
 use Rattle.writer.proofs.puts.put_lines.Given as goal
 
 abbrev pub invariant-loop-j : goal.invariant-loop-j
-invariant-loop-j l = Going l.initial.out l.p l.xs l.m (take l.m (drop l.from every_line)) l.out l.q l.i l.j
-
-abbrev pub decreases-loop-j : goal.decreases-loop-j
-decreases-loop-j l = l.m - l.j
+invariant-loop-j l = Going l.initial.out l.p l.xs l.ts.m (lines_in l.ts) l.out l.q l.i l.j

@@ -1,40 +1,62 @@
--- `writer::refusals::digits_fine`: what its goals need: each way out has its law in Digits. Assumes nothing.
-use mathlib.Core.Path.{◌≡◌, refl, ◌∙◌}
+-- `writer::refusals::digits_fine`: what its goals need. Assumes nothing.
+use mathlib.Core.Path.{◌≡◌, refl, sym, ◌∙◌}
+use mathlib.Core.Bool.{◌&&◌}
 use mathlib.Core.Logic.{inl}
-use lib.ListN.{length}
-use Rattle.writer.proofs.Digits.{no_used, no_others, no_codes, no_certificate, by_entries}
+use Prim.Native.Nat.{◌-◌}
+use lib.ListN.{length, take, drop}
 use borrow.Author.Rules.{rules}
-use mathlib.Core.Path.{ap}
-use mathlib.Core.Bool.{not}
+use Rattle.laws.proofs.Cases.{and_yes, and_no}
+use Rattle.format.specs.Format.{inside}
+use Rattle.writer.proofs.Digits.{asked_in_parts}
+use Rattle.writer.proofs.Taken.{then_both, else_none}
 use Rattle.writer.proofs.refusals.digits_fine.Goals as goal
-
-pub slice_bounds-all_most-end : goal.slice_bounds-all_most-end
-slice_bounds-all_most-end c = let d : length c.args.f.digits ≡ 35 = search (rules, c.well_formed) in
-    search (rules, d)
-
-pub returns-then-not-all_most : goal.returns-then-not-all_most
-returns-then-not-all_most c = let x = c in
-    no_used _ _ _ x.requires.0 (search (rules, x.well_formed)) (search (rules, x.well_formed)) (search (rules, x.well_formed)) c.digits_used-used.result c.all_most.ensures (ap not c.if-not-all_most.true)
-
-pub slice_bounds-all_most-end-2 : goal.slice_bounds-all_most-end-2
-slice_bounds-all_most-end-2 c = let d : length c.args.f.digits ≡ 35 = search (rules, c.well_formed) in
-    search (rules, d)
-
-pub returns-then-not-all_most-2 : goal.returns-then-not-all_most-2
-returns-then-not-all_most-2 c = let x = c in
-    no_others _ _ _ x.requires.0 (search (rules, x.well_formed)) (search (rules, x.well_formed)) (search (rules, x.well_formed)) c.digits_used-used.result c.all_most.ensures (ap not c.if-not-all_most.false) c.all_most-2.ensures (ap not c.if-not-all_most-2.true)
-
-pub returns-then-not-all_most-3 : goal.returns-then-not-all_most-3
-returns-then-not-all_most-3 c = let x = c in
-    no_codes _ _ _ x.requires.0 (search (rules, x.well_formed)) (search (rules, x.well_formed)) (search (rules, x.well_formed)) c.digits_used-used.result c.all_most.ensures (ap not c.if-not-all_most.false) c.all_most-2.ensures (ap not c.if-not-all_most-2.false) c.all_most-3.ensures (ap not c.if-not-all_most-3.true)
-
-pub returns-then-not-all_most-4 : goal.returns-then-not-all_most-4
-returns-then-not-all_most-4 c = let x = c in
-    no_certificate _ _ _ x.requires.0 (search (rules, x.well_formed)) (search (rules, x.well_formed)) (search (rules, x.well_formed)) c.digits_used-used.result c.all_most.ensures (ap not c.if-not-all_most.false) c.all_most-2.ensures (ap not c.if-not-all_most-2.false) c.all_most-3.ensures (ap not c.if-not-all_most-3.false) c.all_most-4.ensures (ap not c.if-not-all_most-4.true)
+use Rattle.writer.proofs.refusals.digits_fine.Goals.{then-all_most, else-all_most, then-all_most-2, else-all_most-2, then-all_most-3, else-all_most-3}
 
 pub body_fine-requires : goal.body_fine-requires
 body_fine-requires c = (inl refl, c.requires.1)
 
-pub returns : goal.returns
-returns c = let x = c in
-    c.body_fine.ensures ∙ by_entries _ _ _ x.requires.0 (search (rules, x.well_formed)) (search (rules, x.well_formed)) (search (rules, x.well_formed)) c.digits_used-used.result c.all_most.ensures (ap not c.if-not-all_most.false) c.all_most-2.ensures (ap not c.if-not-all_most-2.false) c.all_most-3.ensures (ap not c.if-not-all_most-3.false) c.all_most-4.ensures (ap not c.if-not-all_most-4.false)
+pub returns-then-all_most-4 : goal.returns-then-all_most-4
+returns-then-all_most-4 c = let x = c.args in
+    let u = c.digits_used-used.result in
+    let A = inside 0 9 (take u x.f.digits) in
+    let B = inside 0 9 (take (length x.f.digits - u) (drop u x.f.digits)) in
+    let C = inside 0 9 x.codes.now in
+    let v : c.if-all_most.value ≡ (A && B) =
+    elim c.if-all_most.branch [
+      | then-all_most w ↦ then_both w.value-is w.all_most-then-all_most.ensures (sym c.all_most.ensures ∙ w.if-all_most.true)
+      | else-all_most w ↦ else_none _ (w.value-is ∙ w.if-all_most.false) (sym c.all_most.ensures ∙ w.if-all_most.false)
+    ] in
+    let y : c.if-all_most-2.value ≡ ((A && B) && C) =
+    elim c.if-all_most-2.branch [
+      | then-all_most-2 w ↦ then_both w.value-is w.all_most-then-all_most-2.ensures (sym v ∙ w.if-all_most-2.true)
+      | else-all_most-2 w ↦ else_none _ (w.value-is ∙ w.if-all_most-2.false) (sym v ∙ w.if-all_most-2.false)
+    ] in
+    let z : c.if-all_most-3.value ≡ (((A && B) && C) && inside 0 9 x.f.certificate) =
+    elim c.if-all_most-3.branch [
+      | then-all_most-3 w ↦ then_both w.value-is w.all_most-then-all_most-3.ensures (sym y ∙ w.if-all_most-3.true)
+      | else-all_most-3 w ↦ else_none _ (w.value-is ∙ w.if-all_most-3.false) (sym y ∙ w.if-all_most-3.false)
+    ] in
+    c.body_fine.ensures ∙ sym (asked_in_parts x.f x.codes.now x.body.now c.requires.0 (search (rules, c.well_formed)) (search (rules, c.well_formed)) (search (rules, c.well_formed)) u ∙ and_yes _ (sym z ∙ c.if-all_most-4.true))
+
+pub returns-else-all_most-4 : goal.returns-else-all_most-4
+returns-else-all_most-4 c = let x = c.args in
+    let u = c.digits_used-used.result in
+    let A = inside 0 9 (take u x.f.digits) in
+    let B = inside 0 9 (take (length x.f.digits - u) (drop u x.f.digits)) in
+    let C = inside 0 9 x.codes.now in
+    let v : c.if-all_most.value ≡ (A && B) =
+    elim c.if-all_most.branch [
+      | then-all_most w ↦ then_both w.value-is w.all_most-then-all_most.ensures (sym c.all_most.ensures ∙ w.if-all_most.true)
+      | else-all_most w ↦ else_none _ (w.value-is ∙ w.if-all_most.false) (sym c.all_most.ensures ∙ w.if-all_most.false)
+    ] in
+    let y : c.if-all_most-2.value ≡ ((A && B) && C) =
+    elim c.if-all_most-2.branch [
+      | then-all_most-2 w ↦ then_both w.value-is w.all_most-then-all_most-2.ensures (sym v ∙ w.if-all_most-2.true)
+      | else-all_most-2 w ↦ else_none _ (w.value-is ∙ w.if-all_most-2.false) (sym v ∙ w.if-all_most-2.false)
+    ] in
+    let z : c.if-all_most-3.value ≡ (((A && B) && C) && inside 0 9 x.f.certificate) =
+    elim c.if-all_most-3.branch [
+      | then-all_most-3 w ↦ then_both w.value-is w.all_most-then-all_most-3.ensures (sym y ∙ w.if-all_most-3.true)
+      | else-all_most-3 w ↦ else_none _ (w.value-is ∙ w.if-all_most-3.false) (sym y ∙ w.if-all_most-3.false)
+    ] in
+    c.if-all_most-4.false ∙ sym (asked_in_parts x.f x.codes.now x.body.now c.requires.0 (search (rules, c.well_formed)) (search (rules, c.well_formed)) (search (rules, c.well_formed)) u ∙ and_no _ (sym z ∙ c.if-all_most-4.false))

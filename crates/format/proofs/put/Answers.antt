@@ -1,7 +1,0 @@
--- `format::put`: what its goals need. Assumes nothing.
-use mathlib.Core.Path.{sym}
-use lib.Seq.{set_out}
-use Rattle.format.proofs.put.Goals as goal
-
-pub returns-else-i-out : goal.returns-else-i-out
-returns-else-i-out c = sym (set_out c.args.out.now c.args.i c.args.v c.if-i-out.false)

@@ -1,9 +1,0 @@
--- A byte a turn.
-use Rattle.std.proofs.Common.{◌-◌, ◌≤◌, length}
-use Rattle.keep.proofs.put_behind.Given as goal
-
-abbrev pub invariant-loop-i : goal.invariant-loop-i
-invariant-loop-i l = l.i ≤ length l.given
-
-abbrev pub decreases-loop-i : goal.decreases-loop-i
-decreases-loop-i l = length l.given - l.i
