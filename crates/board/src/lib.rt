@@ -71,20 +71,17 @@ fn take_whole(board: Board, frame: &[u8], offered: Outcome, out: &mut [u8]) -> H
     let d = collector::release(c, h.level, h.version).collector;
     let s = board.stories;
     let shown = stories::take_in(s, octets::part(&packet, 0, n), out);
-    let level = level_with(shown.answer, h.level);
     let number = shown.number;
-    let t = shown.stories;
-    let b = Board {
-        collector: d,
-        stories: t,
-    };
     Heard {
         answer: shown.answer,
         length: shown.length,
-        level: level,
+        level: level_with(shown.answer, h.level),
         parts: shown.parts,
-        number: number,
-        board: b,
+        number,
+        board: Board {
+            collector: d,
+            stories: shown.stories,
+        },
     }
 }
 
