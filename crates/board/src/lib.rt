@@ -31,11 +31,9 @@ pub struct Heard {
 pub fn quiet() -> Board
     ensures { result ≡ quiet_board }
 {
-    let c = collector::empty();
-    let s = stories::none();
     Board {
-        collector: c,
-        stories: s,
+        collector: collector::empty(),
+        stories: stories::none(),
     }
 }
 
@@ -43,18 +41,13 @@ pub fn quiet() -> Board
 fn unheard(answer: u8, collector: Holdings, stories: Stories) -> Heard
     ensures { result ≡ unheard_with answer (record { collector = collector; stories = stories }) }
 {
-    let number = [0u8; 35];
-    let b = Board {
-        collector: collector,
-        stories: stories,
-    };
     Heard {
-        answer: answer,
+        answer,
         length: 0,
         level: 0,
         parts: 0,
-        number: number,
-        board: b,
+        number: [0; 35],
+        board: Board { collector, stories },
     }
 }
 
@@ -78,20 +71,17 @@ fn take_whole(board: Board, frame: &[u8], offered: Outcome, out: &mut [u8]) -> H
     let d = collector::release(c, h.level, h.version).collector;
     let s = board.stories;
     let shown = stories::take_in(s, octets::part(&packet, 0, n), out);
-    let level = level_with(shown.answer, h.level);
     let number = shown.number;
-    let t = shown.stories;
-    let b = Board {
-        collector: d,
-        stories: t,
-    };
     Heard {
         answer: shown.answer,
         length: shown.length,
-        level: level,
+        level: level_with(shown.answer, h.level),
         parts: shown.parts,
-        number: number,
-        board: b,
+        number,
+        board: Board {
+            collector: d,
+            stories: shown.stories,
+        },
     }
 }
 
@@ -99,16 +89,9 @@ fn take_whole(board: Board, frame: &[u8], offered: Outcome, out: &mut [u8]) -> H
 fn make_room(c: Holdings) -> Holdings
     ensures { result ≡ room_made c }
 {
-    let mut first = c.places[0];
-    first.held = false;
-    let second = c.places[1];
-    let third = c.places[2];
-    let fourth = c.places[3];
     let mut d = c;
-    d.places[0] = second;
-    d.places[1] = third;
-    d.places[2] = fourth;
-    d.places[3] = first;
+    d.places[0].held = false;
+    d.places.rotate_left(1);
     d
 }
 
@@ -118,8 +101,7 @@ fn offer_with_room(c: Holdings, frame: &[u8], first: Outcome) -> Outcome
     ensures { result ≡ offered_at c frame.now }
 {
     if first.answer == 16 {
-        let d = make_room(c);
-        return collector::offer(d, frame);
+        return collector::offer(make_room(c), frame);
     }
     first
 }
@@ -142,9 +124,8 @@ pub fn hear(board: Board, frame: &[u8], out: &mut [u8]) -> Heard
         return unheard(10, c, s);
     }
     let o = offer_with_room(c, frame, first);
-    let d = o.collector;
     if o.answer != 1 {
-        return unheard(o.answer, d, s);
+        return unheard(o.answer, o.collector, s);
     }
     take_whole(board, frame, o, out)
 }

@@ -1,7 +1,6 @@
 -- Worked examples of a comparison, computed on the definitions.
 use Rattle.std.specs.Prelude.{◌≡◌, refl, true, false, List, [], ◌∷◌, ◌++◌, ℕ, replicate}
 use Rattle.laws.specs.Bits.{at, bits_of, spread}
-use Rattle.laws.specs.Scan.{all}
 use Rattle.laws.specs.Below as every
 use Rattle.laws.specs.Refusals.{first}
 use Rattle.frame.specs.Heading.{reserved}

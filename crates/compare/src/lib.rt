@@ -1,7 +1,7 @@
 // Two shelves compared: a line for each record that differs or that only one has, and a last line with their number.
 #![tactic(auto)]
 
-ghost use Rattle.std.specs.Prelude.{◌≡◌, [], ◌∷◌, ◌+◌, ◌*◌, ◌≤◌, length};
+ghost use Rattle.std.specs.Prelude.{◌≡◌, [], ◌∷◌, ◌+◌, ◌*◌, ◌<◌, ◌≤◌, length, MatchOption};
 ghost use Rattle.std.proofs.lemmas.List.Edits.{sets};
 ghost use Rattle.compare.specs.Differences.{differs, only, first_byte, of_both, of_record, below, longer};
 ghost use Rattle.compare.specs.Texts.{phrase, text_of, Further};
@@ -22,19 +22,17 @@ struct Listing {
     lines: usize,
 }
 
-// The first byte that differs; 256 where none does.
-fn first_byte(a: &[u8], b: &[u8]) -> usize
+// The first byte that differs, if one does.
+fn first_byte(a: &[u8], b: &[u8]) -> Option<usize>
     requires { (length a.now ≡ 256) × (length b.now ≡ 256) }
-    ensures { result ≡ first_byte a.now b.now }
+    ensures { let at = first_byte a.now b.now in MatchOption result (at ≡ 256) (λ i. (i ≡ at) × (i < 256)) }
 {
-    let mut i: usize = 0;
-    while i < 256 {
+    for i in 0..256 {
         if a[i] != b[i] {
-            return i;
+            return Some(i);
         }
-        i += 1;
     }
-    256
+    None
 }
 
 // Writes words from a byte on; the byte behind them.
@@ -42,12 +40,9 @@ fn put_words(words: &[u8], at: usize, out: &mut [u8]) -> usize
     requires { at + length words.now ≤ length out.old }
     ensures { (result ≡ at + length words.now) × (out.new ≡ sets out.old at words.now) }
 {
-    let mut i: usize = 0;
-    while i < words.len() {
-        out[at + i] = words[i];
-        i += 1;
-    }
-    at + words.len()
+    let end = at + words.len();
+    out[at..end].copy_from_slice(words);
+    end
 }
 
 // Writes words, a number and words from a byte on; the byte behind them.
@@ -87,17 +82,12 @@ fn put_both(n: usize, a: &[u8], b: &[u8], so: Listing, out: &mut [u8]) -> Listin
     requires { (length a.now ≡ 256) × (length b.now ≡ 256) × (so.at + 60 ≤ length out.old) × (so.lines ≤ 4096) }
     ensures { Further so.at so.lines out.old (of_both n a.now b.now) result.at result.lines out.new }
 {
-    let k = first_byte(a, b);
-    if k == 256 {
-        return Listing {
-            at: so.at,
-            lines: so.lines,
-        };
-    }
-    let end = put_differs(n, k, a[k], b[k], so.at, out);
-    Listing {
-        at: end,
-        lines: so.lines + 1,
+    match first_byte(a, b) {
+        Some(k) => Listing {
+            at: put_differs(n, k, a[k], b[k], so.at, out),
+            lines: so.lines + 1,
+        },
+        None => so,
     }
 }
 
@@ -106,9 +96,8 @@ fn put_one(right: bool, n: usize, so: Listing, out: &mut [u8]) -> Listing
     requires { (so.at + 60 ≤ length out.old) × (so.lines ≤ 4096) }
     ensures { Further so.at so.lines out.old (only right n ∷ []) result.at result.lines out.new }
 {
-    let end = put_only(right, n, so.at, out);
     Listing {
-        at: end,
+        at: put_only(right, n, so.at, out),
         lines: so.lines + 1,
     }
 }
@@ -139,21 +128,18 @@ fn put_below(left: &[u8], right: &[u8], n: usize, out: &mut [u8]) -> Listing
     ensures { (result.at ≤ 60 * n) × (result.lines ≤ n) × Further 0 0 out.old (below left.now right.now n) result.at result.lines out.new }
 {
     let mut so = Listing { at: 0, lines: 0 };
-    let mut i: usize = 0;
-    while i < n {
+    for i in 0..n {
         so = put_record(left, right, i, so, out);
-        i += 1;
     }
     so
 }
 
 // How many records the longer shelf has.
+#[tactic(auto, unfolding(crate::specs::Differences::longer))]
 fn longer(left: &[u8], right: &[u8]) -> usize
     ensures { result ≡ longer left.now right.now }
 {
-    let n = left.len() / 256;
-    let m = right.len() / 256;
-    if n < m { m } else { n }
+    (left.len() / 256).max(right.len() / 256)
 }
 
 // Writes what two shelves differ in, at the output's start: 34 or 35 for left, then for right, then 10 where it is refused.

@@ -14,10 +14,8 @@ pub(crate) fn places(packets: &[u8], n: usize) -> [usize; 9]
     ensures { Placed n packets.now result n }
 {
     let mut at = [0usize; 9];
-    let mut k: usize = 0;
-    while k < n {
+    for k in 0..n {
         at[k] = lent::find(packets, k, n);
-        k += 1;
     }
     at
 }
@@ -27,13 +25,10 @@ pub(crate) fn all_found(packets: &[u8], at: [usize; 9], n: usize) -> bool
     requires { (n ≤ 9) × Placed n packets.now at n × (all is_part (lent_in packets.now) ≡ true) }
     ensures { result ≡ all is_part (found n (lent_in packets.now) 0 n) }
 {
-    let mut k: usize = 0;
-    while k < n {
-        let b = lent::piece(packets, at[k]);
-        if b.len() == 0 {
+    for k in 0..n {
+        if lent::piece(packets, at[k]).is_empty() {
             return false;
         }
-        k += 1;
     }
     true
 }
@@ -65,10 +60,8 @@ fn is_after(d: [u8; 35], first: [u8; 35], k: usize) -> bool
     requires { k < 9 }
     ensures { result ≡ is_after d first k }
 {
-    if !octets::same_bytes(&d[0..31], &first[0..31]) {
-        return false;
-    }
-    story::last_four(&d) as usize == story::last_four(&first) as usize + k
+    octets::same_bytes(&d[0..31], &first[0..31])
+        && story::last_four(&d) as usize == story::last_four(&first) as usize + k
 }
 
 // Whether the message numbers are in step with that of part 1.
@@ -77,13 +70,10 @@ pub(crate) fn in_step(packets: &[u8], at: [usize; 9], n: usize) -> bool
     ensures { result ≡ all_in_step (found n (lent_in packets.now) 0 n) }
 {
     let first = digits_at(packets, at[0]);
-    let mut k: usize = 0;
-    while k < n {
-        let d = digits_at(packets, at[k]);
-        if !is_after(d, first, k) {
+    for k in 0..n {
+        if !is_after(digits_at(packets, at[k]), first, k) {
             return false;
         }
-        k += 1;
     }
     true
 }
@@ -93,12 +83,9 @@ pub(crate) fn text_length(packets: &[u8], at: [usize; 9], n: usize) -> usize
     requires { Ready n packets.now at }
     ensures { result ≡ length (texts (found n (lent_in packets.now) 0 n)) }
 {
-    let mut sum: usize = 0;
-    let mut k: usize = 0;
-    while k < n {
-        let t = text_at(packets, at[k]);
-        sum += t.len();
-        k += 1;
+    let mut sum = 0;
+    for k in 0..n {
+        sum += text_at(packets, at[k]).len();
     }
     sum
 }
@@ -117,12 +104,10 @@ pub(crate) fn put_texts(packets: &[u8], at: [usize; 9], n: usize, out: &mut [u8]
     requires { Ready n packets.now at × (length (texts (found n (lent_in packets.now) 0 n)) ≤ length out.old) }
     ensures { out.new ≡ sets out.old 0 (texts (found n (lent_in packets.now) 0 n)) }
 {
-    let mut p: usize = 0;
-    let mut k: usize = 0;
-    while k < n {
+    let mut p = 0;
+    for k in 0..n {
         let t = text_at(packets, at[k]);
         put_text(out, p, t);
         p += t.len();
-        k += 1;
     }
 }

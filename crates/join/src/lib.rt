@@ -23,10 +23,7 @@ pub fn is_part(packet: &[u8]) -> bool
 fn refused(answer: u8) -> Joined
     ensures { result ≡ record { answer = answer; length = 0 } }
 {
-    Joined {
-        answer: answer,
-        length: 0,
-    }
+    Joined { answer, length: 0 }
 }
 
 // The text of the packets' parts from the output's first byte on, and its length: 33 or 10 where it is refused, and then nothing is written.

@@ -2,9 +2,9 @@
 use mathlib.Core.Path.{◌≡◌, refl, sym, ap, ap₂, ◌∙◌}
 use mathlib.Core.Bool.{true, false, not, ◌&&◌}
 use mathlib.Core.List.{List, [], ◌∷◌, ◌++◌, append-nil}
-use Prim.Native.Nat.{ℕ, ◌+◌, ◌-◌, ◌*◌, ◌/◌, ◌%◌, ◌<◌, ◌≤◌}
+use Prim.Native.Nat.{ℕ, ◌+◌, ◌-◌, ◌/◌, ◌%◌, ◌<◌, ◌≤◌}
 use native.Mathlib.Omega.{arith}
-use lib.ListN.{length, get_or, take, drop, set, length-append, length-set, length-replicate, drop_of_length-le, replicate}
+use lib.ListN.{length, take, drop, set, length-append, length-set, length-replicate, drop_of_length-le, replicate}
 use lib.Seq.{sets}
 use lib.Dec.{eqb, ltb}
 use borrow.Author.Tests.{eq-eqb, ne_eqb, lt-ltb, le-ltb}
@@ -241,8 +241,8 @@ module _ (r o : List ℕ) where
             (λ t. rw ((room t).0, (room t).1) (whole_line t))
 
 -- what was read byte by byte is what the record says
-pub same_words : (r : List ℕ) (l v h k : ℕ) (p : List ℕ) → l ≡ level_in r → v ≡ version_in r → h ≡ get_or r 2 0 → k ≡ get_or r 3 0 → p ≡ take (h * 256 + k) (drop 4 r) → (o : List ℕ)
+pub same_words : (r : List ℕ) (l v n : ℕ) (p : List ℕ) → l ≡ level_in r → v ≡ version_in r → n ≡ size_in r → p ≡ take n (drop 4 r) → (o : List ℕ)
     → (record_written l v p o ≡ record_written (level_in r) (version_in r) (packet_in r) o) × (record_into l v p o ≡ record_into (level_in r) (version_in r) (packet_in r) o)
-same_words r l v h k p el ev eh ek ep o =
-    let q : p ≡ packet_in r = ep ∙ ap₂ (λ (x y : ℕ). take (x * 256 + y) (drop 4 r)) eh ek in
+same_words r l v n p el ev en ep o =
+    let q : p ≡ packet_in r = ep ∙ ap (λ (k : ℕ). take k (drop 4 r)) en in
     rw (el, ev, q) (refl, refl)

@@ -7,7 +7,7 @@ ghost use Rattle.std.specs.Prelude.{◌≡◌, [], ◌∷◌, ◌++◌, ◌+◌,
 ghost use Rattle.std.proofs.lemmas.List.Edits.{sets};
 ghost use Rattle.laws.specs.Scan.{all};
 ghost use Rattle.frame.specs.Heading.{reserved};
-ghost use Rattle.shelf.specs.Record.{right};
+ghost use Rattle.shelf.specs.Record.{size_in, right};
 ghost use Rattle.shelf.specs.Shelf.{whole, all_right, shelf_answer, add_answer, added, summary_answer, summarized, make_answer, made, lined, line_output};
 
 // What is said of a line: the answer, and how many bytes were written.
@@ -21,72 +21,53 @@ pub struct Written {
 fn all_are(b: &[u8], value: u8) -> bool
     ensures { result ≡ all (eqb value) b.now }
 {
-    let mut i: usize = 0;
-    while i < b.len() {
-        if value != b[i] {
-            return false;
-        }
-        i += 1;
-    }
-    true
+    b.iter().all(|x| value == *x)
 }
 
+#[tactic(auto, unfolding(frame::specs::Heading::reserved))]
 fn is_reserved(level: u8) -> bool
     ensures { result ≡ reserved level }
 {
-    if level == 0 {
-        return true;
-    }
-    7 <= level
+    !(1..=6).contains(&level)
+}
+
+// How many bytes a record says its packet has.
+fn size_in(given: &[u8]) -> usize
+    ensures { result ≡ size_in given.now }
+{
+    octets::byte(given, 2) as usize * 256 + octets::byte(given, 3) as usize
 }
 
 // Whether a record keeps the rules.
+#[tactic(auto, unfolding(crate::specs::Record::right))]
 fn is_right(given: &[u8]) -> bool
     ensures { result ≡ right given.now }
 {
-    if is_reserved(octets::byte(given, 0)) {
-        return false;
-    }
-    if octets::byte(given, 1) > 31 {
-        return false;
-    }
-    let size = octets::byte(given, 2) as usize * 256 + octets::byte(given, 3) as usize;
-    if size < 2 {
-        return false;
-    }
-    if size > 250 {
-        return false;
-    }
-    if size != size::packet_size(octets::part(given, 4, size)) {
-        return false;
-    }
-    if !all_are(octets::part(given, 4 + size, 250 - size), 0xFF) {
-        return false;
-    }
-    all_are(octets::part(given, 254, 2), 0)
+    let size = size_in(given);
+    !is_reserved(octets::byte(given, 0))
+        && octets::byte(given, 1) <= 31
+        && (2..=250).contains(&size)
+        && size == size::packet_size(octets::part(given, 4, size))
+        && all_are(octets::part(given, 4 + size, 250 - size), 0xFF)
+        && all_are(octets::part(given, 254, 2), 0)
 }
 
 // Whether there are whole records, and 4,096 of them at most.
+#[tactic(auto, unfolding(crate::specs::Shelf::whole))]
 fn is_whole(shelf: &[u8]) -> bool
     ensures { result ≡ whole shelf.now }
 {
-    if shelf.len() % 256 != 0 {
-        return false;
-    }
-    shelf.len() / 256 <= 4096
+    shelf.len() % 256 == 0 && shelf.len() / 256 <= 4096
 }
 
 // Whether each record keeps the rules.
 fn are_right(shelf: &[u8]) -> bool
     ensures { result ≡ all_right shelf.now }
 {
-    let n = shelf.len() / 256;
-    let mut i: usize = 0;
-    while i < n {
+    for i in 0..shelf.len() / 256 {
         if !is_right(octets::part(shelf, 256 * i, 256)) {
             return false;
         }
-        i += 1;
     }
     true
 }
@@ -109,19 +90,10 @@ pub fn add(shelf: &[u8], given: &[u8], summary: &mut [u8]) -> u8
     ensures answer { result ≡ add_answer shelf.now given.now summary.old }
     ensures output { summary.new ≡ added shelf.now given.now summary.old }
 {
-    if !is_whole(shelf) {
+    if !is_whole(shelf) || given.len() != 256 || summary.len() != 256 {
         return 34;
     }
-    if given.len() != 256 {
-        return 34;
-    }
-    if summary.len() != 256 {
-        return 34;
-    }
-    if !are_right(shelf) {
-        return 35;
-    }
-    if !is_right(given) {
+    if !are_right(shelf) || !is_right(given) {
         return 35;
     }
     let number = shelf.len() / 256;
@@ -137,10 +109,7 @@ pub fn summarize(shelf: &[u8], summary: &mut [u8]) -> u8
     ensures answer { result ≡ summary_answer shelf.now summary.old }
     ensures output { summary.new ≡ summarized shelf.now summary.old }
 {
-    if !is_whole(shelf) {
-        return 34;
-    }
-    if summary.len() != 256 {
+    if !is_whole(shelf) || summary.len() != 256 {
         return 34;
     }
     if !are_right(shelf) {
@@ -156,13 +125,8 @@ fn put_end(out: &mut [u8], from: usize)
     requires { (length out.old ≡ 256) × (from ≤ 254) }
     ensures { out.new ≡ sets out.old from (replicate (254 - from) 0xFF ++ (0 ∷ 0 ∷ [])) }
 {
-    let mut i = from;
-    while i < 254 {
-        out[i] = 0xFF;
-        i += 1;
-    }
-    out[254] = 0;
-    out[255] = 0;
+    out[from..254].fill(0xFF);
+    out[254..].fill(0);
 }
 
 // Writes a packet from the fifth byte on.
@@ -170,11 +134,7 @@ fn put_packet(out: &mut [u8], packet: &[u8])
     requires { 4 + length packet.now ≤ length out.old }
     ensures { out.new ≡ sets out.old 4 packet.now }
 {
-    let mut i: usize = 0;
-    while i < packet.len() {
-        out[4 + i] = packet[i];
-        i += 1;
-    }
+    out[4..4 + packet.len()].copy_from_slice(packet);
 }
 
 // Writes the record of a whole packet: the on-air writer's 20, 13 and 27, then 34 where it is refused.
@@ -221,11 +181,10 @@ pub fn line(given: &[u8], out: &mut [u8]) -> Written
             length: 0,
         };
     }
-    let size = octets::byte(given, 2) as usize * 256 + octets::byte(given, 3) as usize;
     let n = print::record_line(
         octets::byte(given, 0),
         octets::byte(given, 1),
-        octets::part(given, 4, size),
+        octets::part(given, 4, size_in(given)),
         out,
     );
     if n == 0 {

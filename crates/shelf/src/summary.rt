@@ -12,26 +12,25 @@ pub(crate) fn type_in(given: &[u8]) -> usize
 }
 
 // The number of four bytes from a byte on.
+#[tactic(auto, unfolding(crate::specs::Summary::word_at))]
 fn word_at(summary: &[u8], at: usize) -> u32
     requires { at < 65536 }
     ensures { result ≡ word_at summary.now at }
 {
-    let a = octets::byte(summary, at) as u32;
-    let b = octets::byte(summary, at + 1) as u32;
-    let c = octets::byte(summary, at + 2) as u32;
-    let d = octets::byte(summary, at + 3) as u32;
-    ((a * 256 + b) * 256 + c) * 256 + d
+    let a = octets::byte(summary, at);
+    let b = octets::byte(summary, at + 1);
+    let c = octets::byte(summary, at + 2);
+    let d = octets::byte(summary, at + 3);
+    u32::from_be_bytes([a, b, c, d])
 }
 
 // A number as four bytes from a byte on.
+#[tactic(auto, unfolding(crate::specs::Summary::word))]
 fn put_word(summary: &mut [u8], at: usize, x: u32)
     requires { at + 4 ≤ length summary.old }
     ensures { summary.new ≡ sets summary.old at (word x) }
 {
-    summary[at] = (x >> 24) as u8;
-    summary[at + 1] = ((x >> 16) % 256) as u8;
-    summary[at + 2] = ((x >> 8) % 256) as u8;
-    summary[at + 3] = (x % 256) as u8;
+    summary[at..at + 4].copy_from_slice(&x.to_be_bytes());
 }
 
 // Rewrites the entry of a type: one more, and this the last number.
@@ -40,8 +39,7 @@ pub(crate) fn note(summary: &mut [u8], kind: usize, number: u32)
     ensures { summary.new ≡ noted summary.old kind number }
 {
     let at = 8 * kind;
-    let more = word_at(summary, at) as u64 + 1;
-    put_word(summary, at, (more % 0x1_0000_0000) as u32);
+    put_word(summary, at, word_at(summary, at).wrapping_add(1));
     put_word(summary, at + 4, number);
 }
 
@@ -50,11 +48,9 @@ pub(crate) fn clear(summary: &mut [u8])
     requires { length summary.old ≡ 256 }
     ensures { summary.new ≡ summary_of [] 0 }
 {
-    let mut kind: usize = 0;
-    while kind < 32 {
+    for kind in 0..32 {
         put_word(summary, 8 * kind, 0);
-        put_word(summary, 8 * kind + 4, 0xFFFF_FFFF);
-        kind += 1;
+        put_word(summary, 8 * kind + 4, u32::MAX);
     }
 }
 
@@ -63,14 +59,11 @@ pub(crate) fn count(shelf: &[u8], summary: &mut [u8])
     requires { (summary.old ≡ summary_of shelf.now 0) × (length shelf.now / 256 ≤ 4096) }
     ensures { summary.new ≡ summary_of shelf.now (length shelf.now / 256) }
 {
-    let n = shelf.len() / 256;
-    let mut i: usize = 0;
-    while i < n {
+    for i in 0..shelf.len() / 256 {
         note(
             summary,
             type_in(octets::part(shelf, 256 * i, 256)),
             i as u32,
         );
-        i += 1;
     }
 }

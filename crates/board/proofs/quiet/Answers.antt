@@ -5,4 +5,4 @@ use Rattle.stories.specs.declared.Stories.{Stories}
 use Rattle.board.proofs.quiet.Goals as goal
 
 pub returns : goal.returns
-returns c = ap₂ (λ (k : Holdings) (s : Stories). record { collector = k; stories = s }) c.empty-c.ensures c.none-s.ensures
+returns c = ap₂ (λ (k : Holdings) (s : Stories). record { collector = k; stories = s }) c.empty.ensures c.none.ensures

@@ -5,4 +5,4 @@ use Rattle.compare.proofs.put_one.Goals as goal
 
 pub returns : goal.returns
 returns c = let a = c.args in
-    further_one a.so.at a.so.lines a.out.now (only a.right a.n) _ _ c.put_only-end.ensures.0 c.put_only-end.ensures.1
+    further_one a.so.at a.so.lines a.out.now (only a.right a.n) _ _ c.put_only.ensures.0 c.put_only.ensures.1

@@ -14,8 +14,8 @@ returns-then-not-is_right c = let all = line_35 c.args.given.now c.args.out.now 
 
 pub returns-then-n-eq0 : goal.returns-then-n-eq0
 returns-then-n-eq0 c = let a = c.args in
-    let s = same_words a.given.now c.byte-3.result c.byte-4.result c.byte.result c.byte-2.result _ c.byte-3.ensures c.byte-4.ensures c.byte.ensures c.byte-2.ensures c.part.ensures a.out.now in let all = line_10 a.given.now a.out.now c.if-given-ne256.false (sym c.is_right.ensures ∙ not-false _ (ap not c.if-not-is_right.false)) c.record_line-n.result _ (c.record_line-n.ensures.length ∙ s.0) (c.record_line-n.ensures.output ∙ s.1) c.if-n-eq0.true in record { answer = all.0; output = all.1 }
+    let s = same_words a.given.now c.byte.result c.byte-2.result c.size_in.result _ c.byte.ensures c.byte-2.ensures c.size_in.ensures c.part.ensures a.out.now in let all = line_10 a.given.now a.out.now c.if-given-ne256.false (sym c.is_right.ensures ∙ not-false _ (ap not c.if-not-is_right.false)) c.record_line-n.result _ (c.record_line-n.ensures.length ∙ s.0) (c.record_line-n.ensures.output ∙ s.1) c.if-n-eq0.true in record { answer = all.0; output = all.1 }
 
 pub returns : goal.returns
 returns c = let a = c.args in
-    let s = same_words a.given.now c.byte-3.result c.byte-4.result c.byte.result c.byte-2.result _ c.byte-3.ensures c.byte-4.ensures c.byte.ensures c.byte-2.ensures c.part.ensures a.out.now in let all = line_0 a.given.now a.out.now c.if-given-ne256.false (sym c.is_right.ensures ∙ not-false _ (ap not c.if-not-is_right.false)) c.record_line-n.result _ (c.record_line-n.ensures.length ∙ s.0) (c.record_line-n.ensures.output ∙ s.1) c.if-n-eq0.false in record { answer = all.0; output = all.1 }
+    let s = same_words a.given.now c.byte.result c.byte-2.result c.size_in.result _ c.byte.ensures c.byte-2.ensures c.size_in.ensures c.part.ensures a.out.now in let all = line_0 a.given.now a.out.now c.if-given-ne256.false (sym c.is_right.ensures ∙ not-false _ (ap not c.if-not-is_right.false)) c.record_line-n.result _ (c.record_line-n.ensures.length ∙ s.0) (c.record_line-n.ensures.output ∙ s.1) c.if-n-eq0.false in record { answer = all.0; output = all.1 }

@@ -9,27 +9,32 @@ use lib.ListN.{length}
 use Prim.Native.Nat.{◌+◌}
 use native.Mathlib.Omega.{arith}
 use mathlib.Core.Path.{sym, ap, ◌∙◌}
+use borrow.Author.Tests.{eqb-true, eqb-false}
 use Rattle.join.proofs.found.all_found.Goals as goal
 
 pub loop-k-init : goal.loop-k-init
-loop-k-init c = (ap (all is_part) (found_first c.args.n (lent c.args.packets.now)), omega arith)
+loop-k-init c = ap (all is_part) (found_first c.args.n (lent c.args.packets.now))
 
-pub returns-then-b-eq0 : goal.returns-then-b-eq0
-returns-then-b-eq0 c = let v = c.loop-k.invariant in
+pub returns-then-is_empty : goal.returns-then-is_empty
+returns-then-is_empty c =
     let n = c.args.n in
     let k = c.loop-k.k in
     let bs = lent c.args.packets.now in
     let w = with_head (head_of (k + 1) n) bs in
-    sym (v.0 ∙ ap (all is_part) (found_next n bs k (omega arith)) ∙ parts_stop w _ (part_none w (ap length (sym (c.piece-b.ensures ∙ c.requires.1 k (omega arith))) ∙ c.if-b-eq0.true)))
+    let none = eqb-true _ 0 (sym c.is_empty.ensures ∙ c.if-is_empty.true) in
+    sym (c.loop-k.invariant ∙ ap (all is_part) (found_next n bs k (omega arith)) ∙ parts_stop w _ (part_none w (ap length (sym (c.piece.ensures ∙ c.requires.1 k (omega arith))) ∙ none)))
 
 pub loop-k-preserved : goal.loop-k-preserved
-loop-k-preserved c = let v = c.loop-k.invariant in
+loop-k-preserved c =
     let n = c.args.n in
     let k = c.loop-k.k in
     let bs = lent c.args.packets.now in
     let w = with_head (head_of (k + 1) n) bs in
-    let e = c.piece-b.ensures ∙ c.requires.1 k (omega arith) in
-    (v.0 ∙ ap (all is_part) (found_next n bs k (omega arith)) ∙ parts_next w _ (found_part (head_of (k + 1) n) bs c.requires.2 (λ z. c.if-b-eq0.false (ap length e ∙ z))), omega arith)
+    let e = c.piece.ensures ∙ c.requires.1 k (omega arith) in
+    let some = eqb-false _ 0 (sym c.is_empty.ensures ∙ c.if-is_empty.false) in
+    c.loop-k.invariant
+    ∙ ap (all is_part) (found_next n bs k (omega arith))
+    ∙ parts_next w _ (found_part (head_of (k + 1) n) bs c.requires.2 (λ z. some (ap length e ∙ z)))
 
 pub returns : goal.returns
-returns c = let v = c.loop-k.invariant in sym (v.0 ∙ ap (all is_part) (found_end c.args.n (lent c.args.packets.now) c.loop-k.k (omega arith)) ∙ parts_end)
+returns c = sym (c.loop-k.invariant ∙ ap (all is_part) (found_end c.args.n (lent c.args.packets.now) c.loop-k.k (omega arith)) ∙ parts_end)

@@ -1,11 +1,7 @@
 -- `shelf::summary::count`: what its goals need. Assumes nothing.
 use mathlib.Core.Path.{◌≡◌}
-use Prim.Native.Nat.{◌-◌, ◌≤◌}
 use Rattle.shelf.specs.Summary.{summary_of}
 use Rattle.shelf.proofs.summary.count.Given as goal
 
 abbrev pub invariant-loop-i : goal.invariant-loop-i
-invariant-loop-i l = (l.i ≤ l.n) × (l.summary ≡ summary_of l.shelf l.i)
-
-abbrev pub decreases-loop-i : goal.decreases-loop-i
-decreases-loop-i l = l.n - l.i
+invariant-loop-i l = l.summary ≡ summary_of l.shelf l.i
