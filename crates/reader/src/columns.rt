@@ -31,7 +31,8 @@ fn take_pairs(b: &[u8], k: usize, m: usize, out: &mut [u8], to: usize) -> bool
         let low = b[k + j] % 16;
         out[to + 2 * j] = high;
         out[to + 2 * j + 1] = low;
-        good &= high <= 9 && low <= 9;
+        good &= high <= 9;
+        good &= low <= 9;
     }
     good
 }
