@@ -22,16 +22,15 @@ pub fn content_of(command: Command) -> Content
             minute,
             second,
         } => Content::Clock {
-            year: year,
-            month: month,
-            day: day,
-            hour: hour,
-            minute: minute,
-            second: second,
+            year,
+            month,
+            day,
+            hour,
+            minute,
+            second,
         },
-        Command::Resource { length } => Content::Address { length: length },
-        Command::Lock { khz: _, count: _ } => Content::Raw,
-        Command::Unknown => Content::Raw,
+        Command::Resource { length } => Content::Address { length },
+        Command::Lock { .. } | Command::Unknown => Content::Raw,
     }
 }
 
@@ -40,10 +39,7 @@ pub fn command_of(content: Content) -> Command
     ensures { result ≡ command_for content }
 {
     match content {
-        Content::Raw => Command::Unknown,
-        Content::Frequencies { count: _ } => Command::Unknown,
-        Content::Address { length } => Command::Resource { length: length },
-        Content::Keep { on: _, period: _ } => Command::Unknown,
+        Content::Address { length } => Command::Resource { length },
         Content::Clock {
             year,
             month,
@@ -52,22 +48,21 @@ pub fn command_of(content: Content) -> Command
             minute,
             second,
         } => Command::Clock {
-            year: year,
-            month: month,
-            day: day,
-            hour: hour,
-            minute: minute,
-            second: second,
+            year,
+            month,
+            day,
+            hour,
+            minute,
+            second,
         },
-        Content::Reset { change: _ } => Command::Unknown,
-        Content::Factory => Command::Unknown,
-        Content::Drill { action: _ } => Command::Unknown,
-        Content::Text {
-            kind: _,
-            set: _,
-            length: _,
-        } => Command::Unknown,
-        Content::Hold { serial: _ } => Command::Unknown,
+        Content::Raw
+        | Content::Frequencies { .. }
+        | Content::Keep { .. }
+        | Content::Reset { .. }
+        | Content::Factory
+        | Content::Drill { .. }
+        | Content::Text { .. }
+        | Content::Hold { .. } => Command::Unknown,
     }
 }
 
@@ -76,17 +71,8 @@ fn code_digits(c: Command) -> usize
     ensures { (result ≡ code_digits c) × (result ≤ 23) }
 {
     match c {
-        Command::Clock {
-            year: _,
-            month: _,
-            day: _,
-            hour: _,
-            minute: _,
-            second: _,
-        } => 0,
-        Command::Resource { length: _ } => 23,
-        Command::Lock { khz: _, count: _ } => 0,
-        Command::Unknown => 0,
+        Command::Resource { .. } => 23,
+        Command::Clock { .. } | Command::Lock { .. } | Command::Unknown => 0,
     }
 }
 
@@ -96,11 +82,7 @@ fn padded(xs: &[u8]) -> [u8; 35]
     ensures { result ≡ sets (zeros 35) 0 xs.now }
 {
     let mut d = [0u8; 35];
-    let mut j: usize = 0;
-    while j < xs.len() {
-        d[j] = xs[j];
-        j += 1;
-    }
+    d[..xs.len()].copy_from_slice(xs);
     d
 }
 
