@@ -1,10 +1,10 @@
 -- What hearing a frame answers, case by case. Assumes nothing.
 use mathlib.Core.Path.{◌≡◌, refl, sym, ap, ap₂, ◌∙◌}
-use mathlib.Core.List.{List, [], ◌∷◌, ◌++◌}
+use mathlib.Core.List.{List}
 use mathlib.Core.Bool.{true, false, cond, not}
 use Prim.Native.Nat.{ℕ, ◌≤◌, ◌<◌}
 use native.Mathlib.Omega.{arith}
-use lib.ListN.{length, get_or, set, take, drop}
+use lib.ListN.{length, take}
 use lib.Dec.{eqb}
 use borrow.Author.Tests.{lt-ltb, le-ltb, eq-eqb, ne_eqb, eqb-true, eqb-false}
 use Rattle.laws.specs.Scan.{all}
@@ -17,10 +17,9 @@ use Rattle.frame.specs.Heading.{refusals, heading_fields, heading_of}
 use Rattle.frame.proofs.Accepted.{answer_is, fields_are, refused_with}
 use Rattle.collector.specs.declared.Offered.{Offered}
 use Rattle.collector.specs.declared.Copied.{Copied}
-use Rattle.collector.specs.declared.Holding.{Holding}
 use Rattle.collector.specs.declared.Holdings.{Holdings}
 use Rattle.collector.specs.declared.Outcome.{Outcome}
-use Rattle.collector.specs.Layout.{tops_clear, as_collector, blank_holding, made_free, sound, offer_gives, release_gives, copy_gives, copy_leaves}
+use Rattle.collector.specs.Layout.{tops_clear, as_collector, sound, offer_gives, release_gives, copy_gives, copy_leaves}
 use Rattle.collector.proofs.Calls.{offer_heading}
 use Rattle.collector.proofs.Seen.{offer_same, offer_28_exactly}
 use Rattle.stories.specs.declared.Shown.{Shown}
@@ -120,16 +119,6 @@ module _ (b : Board) (f out : List ℕ) where
         pub is_whole_lem : (offered_at b.collector f).answer ≡ 1 → Gives (whole_heard b f (length out)) (taken_output b.stories (packet_of b f) out)
         unfolding heard_of heard_output offered_to
         is_whole_lem n = let z = eq-eqb _ _ n in (rw (taken, z), rw (taken, z))
-
--- ---- room
-pub room_made_lem : (ps : List Holding) → length ps ≡ 4
-    → set (set (set (set ps 0 (get_or ps 1 blank_holding)) 1 (get_or ps 2 blank_holding)) 2 (get_or ps 3 blank_holding)) 3 (made_free (get_or ps 0 blank_holding)) ≡ drop 1 ps ++ (made_free (get_or ps 0 blank_holding) ∷ [])
-room_made_lem [] e = absurd (omega arith)
-room_made_lem (p ∷ []) e = absurd (omega arith)
-room_made_lem (p ∷ q ∷ []) e = absurd (omega arith)
-room_made_lem (p ∷ q ∷ r ∷ []) e = absurd (omega arith)
-room_made_lem (p ∷ q ∷ r ∷ s ∷ []) e = refl
-room_made_lem (p ∷ q ∷ r ∷ s ∷ t ∷ ps) e = absurd (omega arith)
 
 module _ (c : Holdings) (f : List ℕ) where
   pub ready_again : (offer_gives c f).answer ≡ 16 → offered_at c f ≡ offer_gives (room_made c) f

@@ -24,14 +24,6 @@ shelf_most : (s : List ℕ) → shelf_answer s ≡ 0 → records_in s ≤ 4096
 unfolding shelf_answer shelf_cases
 shelf_most s e = at_most s (not-false _ (not_due (not (whole s)) 34 _ (λ (z : 34 ≡ 0). omega arith) e).0)
 
-pub longer_yes : (l r : List ℕ) → records_in l < records_in r → records_in r ≡ longer l r
-unfolding longer
-longer_yes l r h = sym (if_yes _ _ (lt-ltb _ _ h))
-
-pub longer_no : (l r : List ℕ) → records_in r ≤ records_in l → records_in l ≡ longer l r
-unfolding longer
-longer_no l r h = sym (if_no _ _ (le-ltb _ _ h))
-
 pub longer_most : (l r : List ℕ) (n : ℕ) → n ≡ longer l r → shelf_answer l ≡ 0 → shelf_answer r ≡ 0 → n ≤ 4096
 unfolding longer
 longer_most l r n e a b =

@@ -40,6 +40,7 @@ pub(crate) fn count(packets: &[u8]) -> usize
     let n = packets.len();
     let mut i: usize = 0;
     let mut m: usize = 0;
+    // Stays a while: each packet's own length field says where the next begins, and neither a range nor chunks step so.
     while i < n {
         if m == 10 {
             return 10;
@@ -57,6 +58,7 @@ pub(crate) fn all_parts(packets: &[u8]) -> bool
     let n = packets.len();
     let mut i: usize = 0;
     let mut m: usize = 0;
+    // Stays a while: each packet's own length field says where the next begins, and neither a range nor chunks step so.
     while i < n {
         if m == 10 {
             return true;
@@ -103,6 +105,7 @@ pub(crate) fn find(packets: &[u8], k: usize, n: usize) -> usize
     let e = packets.len();
     let mut i: usize = 0;
     let mut m: usize = 0;
+    // Stays a while, as above: a packet's length field says where the next begins.
     while i < e {
         if m == 10 {
             return e;

@@ -1,7 +1,6 @@
 -- Worked examples of records and summaries, computed on the definitions.
 use Rattle.std.specs.Prelude.{◌≡◌, refl, true, false, List, [], ◌∷◌, ◌++◌, ℕ, replicate, drop, set}
 use Rattle.laws.specs.Bits.{at, bits_of, spread}
-use Rattle.laws.specs.Scan.{all}
 use Rattle.laws.specs.Refusals.{first}
 use Rattle.frame.specs.Heading.{reserved}
 use Rattle.air.specs.OnAir.{sized}
