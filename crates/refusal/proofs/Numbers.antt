@@ -16,7 +16,13 @@ some_number refusal.Room z = omega arith
 some_number refusal.FixedBits z = omega arith
 some_number refusal.Level z = omega arith
 some_number refusal.Numbering z = omega arith
+some_number refusal.Contradiction z = omega arith
+some_number refusal.Place z = omega arith
+some_number refusal.Unheld z = omega arith
 some_number refusal.PacketSize z = omega arith
+some_number refusal.Type z = omega arith
+some_number refusal.ReservedBit z = omega arith
+some_number refusal.Digit z = omega arith
 some_number refusal.Length z = omega arith
 some_number refusal.Range z = omega arith
 some_number refusal.State z = omega arith
@@ -29,6 +35,7 @@ some_number refusal.Record z = omega arith
 some_number refusal.FullShelf z = omega arith
 some_number refusal.Symbol z = omega arith
 some_number refusal.Sample z = omega arith
+some_number refusal.Tag z = omega arith
 
 -- each number leads back to its refusal
 abbrev refusal_of : ℕ → Refusal
@@ -37,7 +44,13 @@ refusal_of n =
     (cond (eqb n 12) refusal.FixedBits
     (cond (eqb n 13) refusal.Level
     (cond (eqb n 14) refusal.Numbering
+    (cond (eqb n 15) refusal.Contradiction
+    (cond (eqb n 16) refusal.Place
+    (cond (eqb n 18) refusal.Unheld
     (cond (eqb n 20) refusal.PacketSize
+    (cond (eqb n 23) refusal.Type
+    (cond (eqb n 24) refusal.ReservedBit
+    (cond (eqb n 25) refusal.Digit
     (cond (eqb n 26) refusal.Length
     (cond (eqb n 27) refusal.Range
     (cond (eqb n 28) refusal.State
@@ -49,14 +62,21 @@ refusal_of n =
     (cond (eqb n 35) refusal.Record
     (cond (eqb n 36) refusal.FullShelf
     (cond (eqb n 37) refusal.Symbol
-    refusal.Sample)))))))))))))))
+    (cond (eqb n 38) refusal.Sample
+    refusal.Tag))))))))))))))))))))))
 
 back : (e : Refusal) → refusal_of (number_of e) ≡ e
 back refusal.Room = refl
 back refusal.FixedBits = refl
 back refusal.Level = refl
 back refusal.Numbering = refl
+back refusal.Contradiction = refl
+back refusal.Place = refl
+back refusal.Unheld = refl
 back refusal.PacketSize = refl
+back refusal.Type = refl
+back refusal.ReservedBit = refl
+back refusal.Digit = refl
 back refusal.Length = refl
 back refusal.Range = refl
 back refusal.State = refl
@@ -69,6 +89,7 @@ back refusal.Record = refl
 back refusal.FullShelf = refl
 back refusal.Symbol = refl
 back refusal.Sample = refl
+back refusal.Tag = refl
 
 -- so an answer names one refusal
 pub same_number : (d e : Refusal) → number_of d ≡ number_of e → d ≡ e

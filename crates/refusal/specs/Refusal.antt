@@ -1,4 +1,4 @@
--- The refusals and their numbers (paper 01, "Numbers given back"; 02, K1, K6, K12), and the number that a result tells.
+-- The refusals and their numbers (paper 01, "Numbers given back"; 02, K1, K6, K12, K14), and the number that a result tells.
 use Rattle.std.specs.Prelude.{ℕ, Result, Ok, Err}
 use Rattle.refusal.specs.declared.Refusal.{Refusal}
 use Rattle.refusal.specs.declared.Refusal.TheVariants as refusal
@@ -9,7 +9,13 @@ number_of refusal.Room = 10
 number_of refusal.FixedBits = 12
 number_of refusal.Level = 13
 number_of refusal.Numbering = 14
+number_of refusal.Contradiction = 15
+number_of refusal.Place = 16
+number_of refusal.Unheld = 18
 number_of refusal.PacketSize = 20
+number_of refusal.Type = 23
+number_of refusal.ReservedBit = 24
+number_of refusal.Digit = 25
 number_of refusal.Length = 26
 number_of refusal.Range = 27
 number_of refusal.State = 28
@@ -22,6 +28,7 @@ number_of refusal.Record = 35
 number_of refusal.FullShelf = 36
 number_of refusal.Symbol = 37
 number_of refusal.Sample = 38
+number_of refusal.Tag = 39
 
 module _ {A : Type 0} where
   -- the number given back: 0 beside a value (01, Numbers given back)

@@ -18,11 +18,23 @@ pub enum Refusal {
     Level,
     // A total is 0, or a number is not below its total.
     Numbering,
+    // A frame contradicts what is held.
+    Contradiction,
+    // A pair is not held, and no place is free.
+    Place,
+    // A pair is not held, or not whole.
+    Unheld,
     // A packet is not of the size that it says, or of none that there is.
     PacketSize,
+    // A type is none that is carried.
+    Type,
+    // A reserved bit is 0.
+    ReservedBit,
+    // A digit is above 9.
+    Digit,
     // A length is wrong for its kind.
     Length,
-    // A field is outside its range.
+    // A field is outside its list or range, or a content is not of the type named.
     Range,
     // A record of state is none that could have come about.
     State,
@@ -44,6 +56,8 @@ pub enum Refusal {
     Symbol,
     // A number is no sample.
     Sample,
+    // A tag names no command.
+    Tag,
 }
 
 impl Refusal {
@@ -56,7 +70,13 @@ impl Refusal {
             Refusal::FixedBits => 12,
             Refusal::Level => 13,
             Refusal::Numbering => 14,
+            Refusal::Contradiction => 15,
+            Refusal::Place => 16,
+            Refusal::Unheld => 18,
             Refusal::PacketSize => 20,
+            Refusal::Type => 23,
+            Refusal::ReservedBit => 24,
+            Refusal::Digit => 25,
             Refusal::Length => 26,
             Refusal::Range => 27,
             Refusal::State => 28,
@@ -69,6 +89,7 @@ impl Refusal {
             Refusal::FullShelf => 36,
             Refusal::Symbol => 37,
             Refusal::Sample => 38,
+            Refusal::Tag => 39,
         }
     }
 }
