@@ -77,12 +77,12 @@ def page_holds(page):
 
 
 def public_functions():
-    """Every public function of a library with its contract's text."""
+    """Every public function and method of a library with its contract's text."""
     for path in files("crates/*/src/**/*.rt"):
         crate = path.split("/")[1]
         if not files("crates/%s/stdout" % crate):
             # up to the line that opens the body, so that the next function's contract is never taken for this one's
-            for name, contract in re.findall(r"^pub (?:extern \"C\" )?fn (\w+)(.*?)\{$", text(path), re.M | re.S):
+            for name, contract in re.findall(r"^ *pub (?:extern \"C\" )?fn (\w+)(.*?)\{$", text(path), re.M | re.S):
                 yield crate, name, contract
 
 
@@ -102,7 +102,14 @@ def takes_input(contract):
     return re.search(r": &(?:mut )?(?:R\b|impl Files\b)", contract.partition("ensures")[0]) is not None
 
 
-def is_closed(contract, forms):
+def tells(crate, left, head):
+    """Whether the left side names the whole answer by what is told of it: a law of the crate, `told_apart`, says that no two answers are told alike."""
+    if left == "answer_of result":
+        return "-> Result<(), Refusal>" in " ".join(head.split())
+    return re.fullmatch(r"told(?: \w+)? result", left) and any(re.search(r"^ *pub told_apart :", text(p), re.M) for p in files("crates/%s/proofs/*.antt" % crate))
+
+
+def is_closed(crate, contract, forms):
     """Whether a contract leaves one answer and one content of each lent memory: an equation, or a closed form, for each of them."""
     head, *clauses = re.split(r"\bensures\b", contract)
     wanted = (["result"] if "->" in head else []) + re.findall(r"(\w+): &(?:'\w+ )?mut ", head)
@@ -113,7 +120,7 @@ def is_closed(contract, forms):
             return False
         fact = m.group(1)
         left, equals, right = fact.partition(" ≡ ")
-        of_answer = re.fullmatch(r"result(?:\.now)?", left)
+        of_answer = re.fullmatch(r"result(?:\.now)?", left) or tells(crate, left, head)
         of_memory = re.fullmatch(r"(?:bits )?(\w+)\.new", left)
         closed = re.match(r"(\w+) result (.*)", fact)
         if equals and (of_answer or of_memory) and not re.search(r"\.new\b|≡|(?<![\w.])result(?!\w)", right):
@@ -160,7 +167,7 @@ def contracts_hold():
         row = rows.pop("%s::%s" % (crate, name), None)
         if "ensures" not in contract or "requires" in contract:
             fault(crate, "`%s` is public and its contract has no `ensures`, or has a `requires`" % name)
-        elif not is_closed(contract, forms) and not ("%s::%s" % (crate, name) in reading and takes_input(contract)):
+        elif not is_closed(crate, contract, forms) and not ("%s::%s" % (crate, name) in reading and takes_input(contract)):
             fault(crate, "the contract of `%s` is not an equation, or a closed form of %s, for its answer and for each memory lent" % (name, page))
         if row is None:
             fault(page, "no row for `%s::%s`" % (crate, name))

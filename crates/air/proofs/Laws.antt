@@ -12,7 +12,10 @@ use Rattle.laws.proofs.Cases.{and_yes, and_no}
 use Rattle.laws.proofs.Elements.{get_d_any}
 use Rattle.crc.specs.Crc16.{crc16}
 use Rattle.size.specs.Size.{packet_size}
-use Rattle.air.specs.OnAir.{with_check, carried, sized}
+use Rattle.std.specs.Prelude.{Result}
+use Rattle.refusal.specs.declared.Refusal.{Refusal}
+use Rattle.refusal.proofs.Numbers.{told_once}
+use Rattle.air.specs.OnAir.{Aired, told, with_check, carried, sized}
 
 module _ (p : List ℕ) (i : ℕ) where
   pub carried_packet : i < length p → get_or p i 0 ≡ carried p i
@@ -45,3 +48,7 @@ module _ (p : List ℕ) where
   pub by_field : 2 ≤ length p → length p ≤ 250 → (n : ℕ) → n ≡ packet_size p → eqb (length p) n ≡ sized p
   unfolding sized
   by_field l h n e = ap (eqb (length p)) e ∙ sym (and_yes _ (le-leb _ _ l) ∙ and_yes _ (le-leb _ _ h))
+
+-- what is told of a result tells the result
+pub told_apart : (r s : Result ℕ Refusal) → told r ≡ told s → r ≡ s
+told_apart r s e = told_once 0 r s (ap (λ (t : Aired). t.answer) e) (ap (λ (t : Aired). t.frames) e)

@@ -1,5 +1,5 @@
 -- What is known of a frame whose heading is accepted, and which numbers refuse one. Assumes nothing.
-use mathlib.Core.Path.{◌≡◌, refl, sym, ◌∙◌}
+use mathlib.Core.Path.{◌≡◌, refl, sym, ap, ◌∙◌}
 use mathlib.Core.Logic.{⊎_elim}
 use mathlib.Core.Bool.{Bool, true, false, not, ◌||◌, false≢true}
 use mathlib.Core.List.{List}
@@ -15,8 +15,11 @@ use Rattle.laws.proofs.Elements.{by_test}
 use Rattle.laws.proofs.Refusals.{done, listed}
 use Rattle.frame.specs.declared.Total.{Total}
 use Rattle.frame.specs.declared.Number.{Number}
+use Rattle.std.specs.Prelude.{Result}
+use Rattle.refusal.specs.declared.Refusal.{Refusal}
+use Rattle.refusal.proofs.Numbers.{told_once}
 use Rattle.frame.specs.declared.Heading.{Heading}
-use Rattle.frame.specs.Heading.{level_of, version_of, total_of, number_of, fixed, reserved, outside, refusals, heading_fields, no_heading, heading_of}
+use Rattle.frame.specs.Heading.{level_of, version_of, total_of, number_of, fixed, reserved, outside, refusals, heading_fields, no_heading, Headed, told, heading_of}
 
 -- the fields of an accepted heading: level 1 to 6, version to 31, number below total, total to 63
 pub record Bounds (h : Heading) : Type 0 where
@@ -115,3 +118,7 @@ module _ (f : List ℕ) where
           number_below = n;
           total_high = omega arith;
         }
+
+-- what is told of a result tells the result
+pub told_apart : (r s : Result Heading Refusal) → told r ≡ told s → r ≡ s
+told_apart r s e = told_once no_heading r s (ap (λ (t : Headed). t.answer) e) (ap (λ (t : Headed). t.heading) e)

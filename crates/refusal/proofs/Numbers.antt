@@ -8,7 +8,7 @@ use lib.Dec.{eqb}
 use Rattle.std.specs.Prelude.{Result, Ok, Err, IsOk}
 use Rattle.refusal.specs.declared.Refusal.{Refusal}
 use Rattle.refusal.specs.declared.Refusal.TheVariants as refusal
-use Rattle.refusal.specs.Refusal.{number_of, answer_of}
+use Rattle.refusal.specs.Refusal.{number_of, answer_of, value_or}
 
 -- a refusal is not told as a value is
 pub some_number : (e : Refusal) → number_of e ≡ 0 → ⊥
@@ -99,3 +99,10 @@ same_number d e h = sym (back d) ∙ ap refusal_of h ∙ back e
 pub value_told : {A : Type 0} (r : Result A Refusal) → answer_of r ≡ 0 → IsOk r
 value_told (Ok value) z = search rules
 value_told (Err e) z = absurd (some_number e z)
+
+-- two results that tell the same number, and the same beside it, are the same
+pub told_once : {A : Type 0} (beside : A) (r s : Result A Refusal) → answer_of r ≡ answer_of s → value_or beside r ≡ value_or beside s → r ≡ s
+told_once beside (Ok x) (Ok y) n v = ap (λ z. Ok z) v
+told_once beside (Ok x) (Err e) n v = absurd (some_number e (sym n))
+told_once beside (Err d) (Ok y) n v = absurd (some_number d n)
+told_once beside (Err d) (Err e) n v = ap (λ z. Err z) (same_number d e n)

@@ -1,5 +1,5 @@
 -- Each refusal of a symbol exactly in its case, and what it leaves as it was. Assumes nothing.
-use mathlib.Core.Path.{◌≡◌, refl, sym}
+use mathlib.Core.Path.{◌≡◌, refl, sym, ap, ap₂}
 use mathlib.Core.Logic.{◌↔◌, ◌⊎◌}
 use mathlib.Core.Bool.{Bool, true, false, cond}
 use mathlib.Core.List.{List}
@@ -9,7 +9,12 @@ use lib.ListN.{length, take}
 use lib.Ieee.{Float}
 use Rattle.laws.specs.Refusals.{none, among, apart, case_at}
 use Rattle.laws.proofs.Refusals.{exact, done, listed}
-use Rattle.samples.specs.Symbol.{refusal, taken, decide_cases, decide_answer, decided}
+use Rattle.std.specs.Prelude.{Result, Ok, Err}
+use Rattle.refusal.specs.declared.Refusal.{Refusal}
+use Rattle.refusal.proofs.Numbers.{some_number, same_number}
+use Rattle.samples.specs.declared.Pair.{Pair}
+use Rattle.samples.specs.declared.Decided.{Decided as Given}
+use Rattle.samples.specs.Symbol.{Decided, told, refusal, taken, decide_cases, decide_answer, decided}
 use Rattle.samples.specs.declared.Pair.{Pair}
 use Rattle.samples.proofs.Steps.{holds, is_refused}
 
@@ -36,3 +41,10 @@ decide_exact s xs = rw (answer_is s xs) (exact (decide_cases s xs) (cases_apart 
 -- Refused, the state stays and the verdict is undecided with plus zero.
 pub decide_refused : (s : Pair) (xs : List Float) → ((decided s xs).answer ≡ 0 → ⊥) → decided s xs ≡ refusal (decided s xs).answer s
 decide_refused s xs h = sym (is_refused s xs (decided s xs).answer (answer_is s xs) h)
+
+-- what is told of a result tells the result
+pub told_apart : (s : Pair) (r t : Result Given Refusal) → told s r ≡ told s t → r ≡ t
+told_apart s (Ok d) (Ok e) h = ap₂ {C = Result Given Refusal} (λ v p. Ok (record { verdict = v; state = p })) (ap (λ (x : Decided). x.verdict) h) (ap (λ (x : Decided). x.state) h)
+told_apart s (Ok d) (Err e) h = absurd (some_number e (sym (ap (λ (x : Decided). x.answer) h)))
+told_apart s (Err d) (Ok e) h = absurd (some_number d (ap (λ (x : Decided). x.answer) h))
+told_apart s (Err d) (Err e) h = ap {B = Result Given Refusal} (λ x. Err x) (same_number d e (ap (λ (x : Decided). x.answer) h))
