@@ -138,7 +138,7 @@ def of_code(crate, label):
 
 def wanted(contract):
     """How many edits a function has at least: where nothing is given there is one value to get wrong."""
-    return 1 if contract.startswith("()") else 2
+    return 1 if re.match(r"(?:<[^>]*>)?\(\)", contract) else 2
 
 
 def is_thin(crate):

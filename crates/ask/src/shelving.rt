@@ -8,12 +8,8 @@ ghost use Rattle.std.specs.Prelude.{◌≡◌, length};
 use crate::{input, say};
 use std::io;
 
-// Room for a record more than a shelf may have, and a byte.
-fn space() -> [u8; 1048833]
-    ensures { 1048833 ≡ length result }
-{
-    [0; 1048833]
-}
+// A record more than a shelf may have, and a byte.
+const SPACE: usize = 1048833;
 
 // The bytes over and over until the output is full.
 fn repeat(b: &[u8], out: &mut [u8])
@@ -46,8 +42,8 @@ fn added(
 pub(crate) fn add(rt: &impl Print, b: &[u8]) -> io::Result<()> {
     let n = input::two(b, 5) as usize;
     let m = input::two(b, 7) as usize;
-    let mut space = space();
-    let e = (input::four(b, 1) as usize).min(1048833);
+    let mut space = intake::room::<SPACE>();
+    let e = (input::four(b, 1) as usize).min(SPACE);
     repeat(octets::part(b, 11, n), &mut space);
     added(
         rt,
@@ -72,8 +68,8 @@ fn summarized(rt: &impl Print, shelf: &[u8], n: usize, memory: &mut [u8]) -> io:
 
 // A whole record.
 pub(crate) fn summarize(rt: &impl Print, b: &[u8]) -> io::Result<()> {
-    let mut space = space();
-    let e = (input::four(b, 1) as usize).min(1048833);
+    let mut space = intake::room::<SPACE>();
+    let e = (input::four(b, 1) as usize).min(SPACE);
     repeat(octets::part(b, 9, 65536), &mut space);
     summarized(
         rt,

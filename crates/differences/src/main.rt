@@ -2,24 +2,12 @@
 // their number; or, where one is refused, its number and the file's name alone.
 #![tactic(auto)]
 
-ghost use Rattle.std.specs.Prelude.{◌≡◌, length};
-
 use std::io;
 use std::rt::Files;
 
-// Room for 4,096 records.
-fn space() -> [u8; 1048576]
-    ensures { 1048576 ≡ length result }
-{
-    [0; 1048576]
-}
-
-// Room for a report.
-fn report() -> [u8; 262144]
-    ensures { 262144 ≡ length result }
-{
-    [0; 262144]
-}
+// The bytes of 4,096 records, and of a report.
+const SHELF: usize = 1048576;
+const REPORT: usize = 262144;
 
 // Reads a file, and answers how many bytes it has: one, which is no shelf and so refused with 34 in its turn, where it is longer or can't be read to its end.
 fn read(rt: &impl Files, name: &str, space: &mut [u8]) -> usize {
@@ -35,11 +23,11 @@ fn say(rt: &impl Print, answer: u8, right: bool) -> io::Result<()> {
 }
 
 fn main(rt: HostRuntime) -> io::Result<()> {
-    let mut left = space();
-    let mut right = space();
+    let mut left = intake::room::<SHELF>();
+    let mut right = intake::room::<SHELF>();
     let n = read(&rt, "left", &mut left);
     let m = read(&rt, "right", &mut right);
-    let mut text = report();
+    let mut text = intake::room::<REPORT>();
     let compared = compare::list(
         octets::part(&left, 0, n),
         octets::part(&right, 0, m),

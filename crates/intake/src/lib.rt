@@ -1,12 +1,19 @@
 // Reading in whole pieces, where one read may give less than is there.
 #![tactic(auto)]
 
-ghost use Rattle.std.specs.Prelude.{◌≡◌, ◌+◌, ◌<◌, ◌≤◌, IfOk, IfSome, None, drop, length, take};
+ghost use Rattle.std.specs.Prelude.{◌≡◌, ◌+◌, ◌<◌, ◌≤◌, IfOk, IfSome, None, drop, length, replicate, take};
 ghost use Rattle.std.specs.Io.KnownBytes.{Consumes, IsAtEnd};
 
 use std::io::Read;
 use std::rt::Files;
 use std::{fs, io};
+
+// Memory of so many bytes, as long as a file may be.
+pub fn room<const N: usize>() -> [u8; N]
+    ensures { result ≡ replicate N 0 }
+{
+    [0; N]
+}
 
 // What one read gives, put behind the first `at` bytes of the piece; how many bytes came.
 fn more<R: Read>(input: &mut R, piece: &mut [u8], at: usize) -> io::Result<usize>

@@ -3,8 +3,6 @@
 // packet that is whole, a byte: 0, and behind it the record's 256 bytes and the 256 of the summary then; or 36 where the shelf is full.
 #![tactic(auto)]
 
-ghost use Rattle.std.specs.Prelude.{◌≡◌, length};
-
 use collector::Holdings;
 use frame::Heading;
 use receiver::Receiver;
@@ -135,16 +133,12 @@ fn start(
     run(rt, input, keeping)
 }
 
-// Room for 4,096 records.
-fn space() -> [u8; 1048576]
-    ensures { 1048576 ≡ length result }
-{
-    [0; 1048576]
-}
+// The bytes of 4,096 records.
+const SHELF: usize = 1048576;
 
 // What was read is a shelf only where the file ends behind it: a longer one, and one that can't be read to its end, is refused with 34.
 fn main(rt: HostRuntime) -> io::Result<()> {
-    let mut space = space();
+    let mut space = intake::room::<SHELF>();
     match intake::whole_file(&rt, "shelf", &mut space) {
         Some(n) => start(&rt, &mut rt.reader(), n, &mut space),
         None => rt.write_all(&[34]),

@@ -1,8 +1,6 @@
 // Prints the shelf, the file `shelf` of the current folder: a line for each record, or the number of a refusal alone.
 #![tactic(auto)]
 
-ghost use Rattle.std.specs.Prelude.{◌≡◌, length};
-
 use std::io;
 
 // Prints a number and the line's end.
@@ -28,16 +26,12 @@ fn show(rt: &impl Print, shelf: &[u8]) -> io::Result<()> {
     print(rt, shelf)
 }
 
-// Room for 4,096 records.
-fn space() -> [u8; 1048576]
-    ensures { 1048576 ≡ length result }
-{
-    [0; 1048576]
-}
+// The bytes of 4,096 records.
+const SHELF: usize = 1048576;
 
 // What was read is a shelf only where the file ends behind it: a longer one, and one that can't be read to its end, is refused with 34.
 fn main(rt: HostRuntime) -> io::Result<()> {
-    let mut space = space();
+    let mut space = intake::room::<SHELF>();
     match intake::whole_file(&rt, "shelf", &mut space) {
         Some(n) => show(&rt, octets::part(&space, 0, n)),
         None => say(&rt, 34),
