@@ -18,7 +18,7 @@ use Rattle.mend.specs.Mend.{mended_of}
 use Rattle.mend.specs.Table.{mended_by}
 use Rattle.mend.proofs.OnlyOne.{index_lt}
 use Rattle.mend.proofs.Entries.{by_letter}
-use Rattle.receiver.specs.declared.searching.Found.{Found}
+use Rattle.receiver.specs.Search.{Found}
 use Rattle.receiver.specs.Rule.{one}
 use Rattle.receiver.specs.Search.{ahead, Holds, Takes, which, rest_of}
 use Rattle.receiver.proofs.Pairs.{syndrome_lt, offset_small}

@@ -20,7 +20,7 @@ use Rattle.block.specs.declared.Letter.TheVariants.{A, B, C, D}
 use Rattle.mend.specs.Mend.{Outcome}
 use Rattle.mend.specs.Mend.{mended_of}
 use Rattle.mend.proofs.OnlyOne.{valid_lt}
-use Rattle.receiver.specs.declared.searching.Found.{Found}
+use Rattle.receiver.specs.Search.{Found}
 use Rattle.receiver.specs.Rule.{Heard, is_frame, information, block_at, can_mend, mended_bits, one, mended_blocks, is_taken, taken_bytes, taken_count, ended, heard}
 use Rattle.receiver.specs.Receive.{joined}
 use Rattle.receiver.specs.Search.{ahead, heard_from, Holds, NoneOf, Takes, Further, Searched}

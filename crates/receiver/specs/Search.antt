@@ -1,12 +1,12 @@
 -- What the small functions under `receive` cite: the rule on the bits of a buffer from a place on, up to an end.
-use Rattle.std.specs.Prelude.{◌≡◌, Bool, true, false, List, ℕ, zero, suc, ◌+◌, ◌*◌, ◌/◌, ◌%◌, ◌-◌, ◌^◌, ◌≤◌, ◌<◌, length, take, drop}
+use Rattle.std.specs.Prelude.{Option, Some, None, ◌≡◌, Bool, true, false, List, ℕ, zero, suc, ◌+◌, ◌*◌, ◌/◌, ◌%◌, ◌-◌, ◌^◌, ◌≤◌, ◌<◌, length, take, drop}
 use Rattle.std.specs.Int.Count.{count_leading_zeros}
 use Rattle.laws.specs.Bits.{at, bits, bits_of, bytes}
 use Rattle.laws.specs.Poly.{◌⊕◌}
 use Rattle.block.specs.Block.{offset_of, syndrome, is_valid}
 use Rattle.block.specs.declared.Letter.{Letter}
 use Rattle.block.specs.declared.Letter.TheVariants.{A}
-use Rattle.receiver.specs.declared.searching.Found.{Found}
+use Rattle.receiver.specs.declared.searching.Found.{Found as Frame}
 use Rattle.receiver.specs.declared.searching.Read.{Read}
 use Rattle.receiver.specs.Rule.{Heard, is_taken, taken_bytes, taken_count, heard}
 
@@ -46,6 +46,17 @@ which a b c d (suc (suc (suc k))) = d
 -- what bits leave on division less the letter's offset word
 abbrev pub rest_of : ℕ → Letter → ℕ
 rest_of bits letter = syndrome bits ⊕ offset_of letter
+
+-- whether a frame stands at a place, its information as one number, and the count of its mended blocks
+pub record Found : Type 0 where
+  pub frame : Bool
+  pub words : ℕ
+  pub mended : ℕ
+
+-- what the code gives back for it
+abbrev pub told : Option Frame → Found
+told None = record { frame = false; words = 0; mended = 0 }
+told (Some f) = record { frame = true; words = f.words; mended = f.mended }
 
 -- a frame is handed out from a start that follows or does not, with its information as one number and the count of its mended blocks; or none is
 pub record Takes (follows : Bool) (l : List ℕ) (r : Found) : Type 0 where

@@ -4,17 +4,16 @@ ghost use Rattle.std.proofs.lemmas.List.Edits.{sets};
 ghost use Rattle.block.specs.Block.{offset_of, syndrome, is_valid};
 ghost use Rattle.receiver.specs.Rule as rule;
 ghost use Rattle.receiver.specs.Receive.{joined};
-ghost use Rattle.receiver.specs.Search.{ahead, heard_from, Holds, Takes, Searched, which, rest_of};
+ghost use Rattle.receiver.specs.Search.{ahead, heard_from, Holds, Takes, Searched, told, which, rest_of};
 
 use crate::places::open_from;
 use crate::store::store;
 use crate::window::window;
 use block::Letter;
 
-// Whether a frame stands at a place, its information, and how many of its blocks were mended.
+// A frame that stands at a place: its information, and how many of its blocks were mended.
 #[derive(Clone, Copy)]
 pub(crate) struct Found {
-    pub frame: bool,
     pub words: u64,
     pub mended: u8,
 }
@@ -74,38 +73,27 @@ fn words_of(a: u32, p: u32, q: u32, d: u32) -> u64
     left * 0x1_0000_0000 + right
 }
 
-fn no_frame() -> Found
-    ensures { result ≡ record { frame = false; words = 0; mended = 0 } }
-{
-    Found {
-        frame: false,
-        words: 0,
-        mended: 0,
-    }
-}
-
 // Asks the four blocks at a place.
-fn frame_at(b: &[u8], end: usize, from: usize) -> Found
+fn frame_at(b: &[u8], end: usize, from: usize) -> Option<Found>
     requires { Holds b.now end × (from + 104 ≤ end) }
-    ensures { Takes false (ahead b.now end from) result }
+    ensures { Takes false (ahead b.now end from) (told result) }
 {
     let x = window(b, from);
     if !both_pass(x, Letter::A, Letter::B) {
-        return no_frame();
+        return None;
     }
     let y = window(b, from + 52);
     if !both_pass(y, Letter::C, Letter::D) {
-        return no_frame();
+        return None;
     }
     let a = (x >> 38) as u32;
     let p = ((x >> 12) % 0x400_0000) as u32;
     let q = (y >> 38) as u32;
     let d = ((y >> 12) % 0x400_0000) as u32;
-    Found {
-        frame: true,
+    Some(Found {
         words: words_of(a, p, q, d),
         mended: 0,
-    }
+    })
 }
 
 pub(crate) fn one(b: bool) -> u8
@@ -139,9 +127,9 @@ fn rest_at(p: u64, q: u64, k: usize) -> u16
 }
 
 // Mends the four blocks at a place, in a loop: so the table is asked at one place of the code, and stands in it where it is asked.
-fn mended_at(b: &[u8], end: usize, from: usize) -> Found
+fn mended_at(b: &[u8], end: usize, from: usize) -> Option<Found>
     requires { Holds b.now end × (from + 104 ≤ end) }
-    ensures { Takes true (ahead b.now end from) result }
+    ensures { Takes true (ahead b.now end from) (told result) }
 {
     let x = window(b, from);
     let y = window(b, from + 52);
@@ -151,31 +139,27 @@ fn mended_at(b: &[u8], end: usize, from: usize) -> Found
     let mut changed: u8 = 0;
     for k in 0..4 {
         let Some(mended) = mend::mended_by(block_at(x, y, k), rest_at(p, q, k)) else {
-            return no_frame();
+            return None;
         };
         words = (words << 16) + (mended.block / 1024) as u64;
         changed += one(mended.changed);
     }
-    Found {
-        frame: true,
+    Some(Found {
         words,
         mended: changed,
-    }
+    })
 }
 
 // Asks a start: mending is tried right behind a frame, and only where the blocks as they are do not all pass.
-fn taken_at(b: &[u8], end: usize, from: usize, follows: bool) -> Found
+fn taken_at(b: &[u8], end: usize, from: usize, follows: bool) -> Option<Found>
     requires { Holds b.now end × (from + 104 ≤ end) }
-    ensures { Takes follows (ahead b.now end from) result }
+    ensures { Takes follows (ahead b.now end from) (told result) }
 {
-    let found = frame_at(b, end, from);
-    if found.frame {
-        return found;
+    match frame_at(b, end, from) {
+        Some(found) => Some(found),
+        None if follows => mended_at(b, end, from),
+        None => None,
     }
-    if follows {
-        return mended_at(b, end, from);
-    }
-    found
 }
 
 // Hands out every frame from a place on up to the end, and of each the count of its mended blocks.
@@ -196,15 +180,18 @@ pub(crate) fn search(
     let mut frames = 0;
     let mut follows = behind;
     while from + 104 <= end {
-        let found = taken_at(b, end, from, follows);
-        follows = found.frame;
-        if found.frame {
-            store(out, frames * 8, found.words);
-            counts[frames] = found.mended;
-            frames += 1;
-            from += 104;
-        } else {
-            from = open_from(b, end, from + 1, end - 103);
+        match taken_at(b, end, from, follows) {
+            Some(found) => {
+                store(out, frames * 8, found.words);
+                counts[frames] = found.mended;
+                frames += 1;
+                from += 104;
+                follows = true;
+            }
+            None => {
+                from = open_from(b, end, from + 1, end - 103);
+                follows = false;
+            }
         }
     }
     Read {

@@ -16,7 +16,7 @@ returns-in_default c = let a = c.args in
     let x = c.window-x.result in
     let y = c.window-y.result in
     let o : nothing ≡ outcome_at x y c.loop-k.k = asked x y c.rests-p.result c.rests-q.result (wide a.b.now _ x c.window-x.ensures) (wide a.b.now _ y c.window-y.ensures) c.rests-p.ensures c.rests-q.ensures c.loop-k.k _ _ nothing c.in_default.ensures c.block_at.ensures c.rest_at.ensures in
-    fail_at a.b.now a.end a.from x y c.requires.0 c.requires.1 c.window-x.ensures c.window-y.ensures _ c.loop-k-test.true c.loop-k.invariant.found nothing o refl _ c.no_frame.ensures
+    fail_at a.b.now a.end a.from x y c.requires.0 c.requires.1 c.window-x.ensures c.window-y.ensures _ c.loop-k-test.true c.loop-k.invariant.found nothing o refl _ refl
 
 pub overflow_add-words : goal.overflow_add-words
 overflow_add-words c = let a = c.args in

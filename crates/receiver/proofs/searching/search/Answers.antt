@@ -9,8 +9,8 @@ loop-from-init c = begin _ _ _ _ _ _ c.requires.2 c.requires.1
 pub overflow_add-from : goal.overflow_add-from
 overflow_add-from c = omega (arith, c.loop-from.invariant.inside, c.requires.0.short)
 
-pub taken_at-found-requires : goal.taken_at-found-requires
-taken_at-found-requires c = (c.requires.0, c.loop-from-test.true)
+pub taken_at-requires : goal.taken_at-requires
+taken_at-requires c = (c.requires.0, c.loop-from-test.true)
 
 pub overflow_mul-frames : goal.overflow_mul-frames
 overflow_mul-frames c = omega (arith, c.loop-from.invariant.few, c.loop-from.invariant.inside, c.requires.0.short)
@@ -24,19 +24,18 @@ bounds-counts-frames c = count_room c.requires.0 c.loop-from.invariant c.loop-fr
 pub overflow_add-frames : goal.overflow_add-frames
 overflow_add-frames c = omega (arith, c.loop-from.invariant.few, c.loop-from.invariant.inside, c.requires.0.short)
 
-pub overflow_add-from-then-found : goal.overflow_add-from-then-found
-overflow_add-from-then-found c = omega (arith, c.loop-from-test.true, c.requires.0.short)
+pub overflow_add-from-in-Some : goal.overflow_add-from-in-Some
+overflow_add-from-in-Some c = omega (arith, c.loop-from-test.true, c.requires.0.short)
 
-pub loop-from-smaller-then-found : goal.loop-from-smaller-then-found
-loop-from-smaller-then-found c = omega (arith, c.loop-from-test.true)
+pub loop-from-smaller-in-Some : goal.loop-from-smaller-in-Some
+loop-from-smaller-in-Some c = omega (arith, c.loop-from-test.true)
 
-pub loop-from-preserved-then-found : goal.loop-from-preserved-then-found
-loop-from-preserved-then-found c = let t = c.taken_at-found.ensures in
-    let y = c.if-found.true in
-    stored_on c.requires.0 c.loop-from.invariant c.loop-from-test.true (sym t.same ∙ y) _ y _ c.store.new.out _ _ (t.words y) c.store.ensures (t.count y) refl
+pub loop-from-preserved-in-Some : goal.loop-from-preserved-in-Some
+loop-from-preserved-in-Some c = let t = c.in-Some.ensures in
+    stored_on c.requires.0 c.loop-from.invariant c.loop-from-test.true (sym t.same) _ refl _ c.store.new.out _ _ (t.words refl) c.store.ensures (t.count refl) refl
 
-pub overflow_add-from-else-found : goal.overflow_add-from-else-found
-overflow_add-from-else-found c = omega (arith, c.loop-from-test.true, c.requires.0.short)
+pub overflow_add-from-in-None : goal.overflow_add-from-in-None
+overflow_add-from-in-None c = omega (arith, c.loop-from-test.true, c.requires.0.short)
 
 pub overflow_sub-end : goal.overflow_sub-end
 overflow_sub-end c = omega (arith, c.loop-from-test.true)
@@ -48,7 +47,7 @@ pub loop-from-smaller : goal.loop-from-smaller
 loop-from-smaller c = omega (arith, c.loop-from-test.true, c.open_from-from.ensures.later, c.open_from-from.ensures.inside)
 
 pub loop-from-preserved : goal.loop-from-preserved
-loop-from-preserved c = passed_on c.requires.0 c.loop-from.invariant c.loop-from-test.true (sym c.taken_at-found.ensures.same ∙ c.if-found.false) _ c.if-found.false c.open_from-from.ensures
+loop-from-preserved c = passed_on c.requires.0 c.loop-from.invariant c.loop-from-test.true (sym c.in-None.ensures.same) _ refl c.open_from-from.ensures
 
 pub shape_of-out : goal.shape_of-out
 shape_of-out c = c.loop-from.invariant.same
