@@ -98,6 +98,7 @@ fn main(rt: HostRuntime) -> io::Result<()> {
     let n = intake::fill(&mut rt.reader(), &mut records)?;
     let mut left = octets::part(&records, 0, n);
     let mut kept = keeping::begin();
+    // a while: a record says its own length, so neither a range nor chunks step so
     while !left.is_empty() {
         let length = length_of(left);
         if length == 0 {

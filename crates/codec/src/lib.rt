@@ -30,7 +30,7 @@ pub struct PlainFields {
     pub signature: [u8; 64],
 }
 
-// The reader's answer, and the fields beside it.
+// The reader's answer, and the fields beside it: a number and a record, since C has no Result.
 #[repr(C)]
 #[derive(Clone, Copy)]
 pub struct PlainTold {
@@ -38,7 +38,7 @@ pub struct PlainTold {
     pub fields: PlainFields,
 }
 
-// The writer's answer, and how many bytes it wrote.
+// The writer's answer, and how many bytes it wrote, likewise.
 #[repr(C)]
 #[derive(Clone, Copy)]
 pub struct PlainWritten {

@@ -33,6 +33,7 @@ pub fn fill<R: Read>(input: &mut R, piece: &mut [u8]) -> io::Result<usize>
     ensures end { IfOk result (λ n. n < length piece.new → IsAtEnd (R.remaining input.new)) }
 {
     let mut done: usize = 0;
+    // a while: each read says for itself how far it came, so no range steps so
     while done < piece.len() {
         let n = more(input, piece, done)?;
         if n == 0 {

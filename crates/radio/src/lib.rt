@@ -15,7 +15,7 @@ use block::AnyLetter;
 use receiver::{Received, Receiver};
 use samples::{Pair, Verdict};
 
-// The on-air writer's answer, and how many frames were written.
+// The on-air writer's answer, and how many frames were written: a number and a count, since C has no Result.
 #[repr(C)]
 #[derive(Clone, Copy)]
 pub struct Sent {
@@ -23,7 +23,7 @@ pub struct Sent {
     pub frames: usize,
 }
 
-// The answer to a symbol; its bit, or 2 where it is undecided; the product that decided it; the state behind it.
+// The answer to a symbol; its bit, or 2 where it is undecided; the product that decided it; the state behind it: numbers, since C has no Result.
 #[repr(C)]
 #[derive(Clone, Copy)]
 pub struct DecidedSymbol {

@@ -24,7 +24,7 @@ pub struct Receiver {
     pub follows: u8,
 }
 
-// The answer to a delivery, how many frames were written, and the receiver for the next one.
+// The answer to a delivery, how many frames were written, and the receiver for the next one: a number beside them, since it is C's record too.
 #[repr(C)]
 #[derive(Clone, Copy)]
 pub struct Received {

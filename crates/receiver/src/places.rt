@@ -34,6 +34,7 @@ pub(crate) fn open_from(b: &[u8], end: usize, from: usize, last: usize) -> usize
     ensures { Further b.now end from last result }
 {
     let mut p = from;
+    // a while: it ends at the first mark, and every turn but that one passes 39 places
     while p < last {
         let m = marked(b, p);
         if m != 0 {

@@ -179,6 +179,7 @@ pub(crate) fn search(
     let mut from = start;
     let mut frames = 0;
     let mut follows = behind;
+    // a while: a frame is passed whole, and else the next mark says where to go on
     while from + 104 <= end {
         match taken_at(b, end, from, follows) {
             Some(found) => {
