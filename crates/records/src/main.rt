@@ -3,29 +3,29 @@
 
 ghost use Rattle.std.specs.Prelude.{◌≡◌, length};
 
+use refusal::Refusal;
 use std::io;
 
-// Prints a number and the line's end.
-fn say(rt: &impl Print, answer: u8) -> io::Result<()> {
-    println!(rt; "{answer}")
+// Prints a refusal's number and the line's end.
+fn say(rt: &impl Print, refusal: Refusal) -> io::Result<()> {
+    println!(rt; "{refusal}")
 }
 
 // The lines of the records.
 fn print(rt: &impl Print, shelf: &[u8]) -> io::Result<()> {
     for record in shelf.chunks_exact(256) {
         let mut text = [0u8; 510];
-        let written = shelf::line(record, &mut text);
-        rt.write_all(octets::part(&text, 0, written.length))?;
+        let length = shelf::line(record, &mut text).unwrap_or(0);
+        rt.write_all(octets::part(&text, 0, length))?;
     }
     Ok(())
 }
 
 fn show(rt: &impl Print, shelf: &[u8]) -> io::Result<()> {
-    let answer = shelf::judge(shelf);
-    if answer != 0 {
-        return say(rt, answer);
+    match shelf::judge(shelf) {
+        Ok(()) => print(rt, shelf),
+        Err(refusal) => say(rt, refusal),
     }
-    print(rt, shelf)
 }
 
 // Room for 4,096 records.
@@ -40,6 +40,6 @@ fn main(rt: HostRuntime) -> io::Result<()> {
     let mut space = space();
     match intake::whole_file(&rt, "shelf", &mut space) {
         Some(n) => show(&rt, octets::part(&space, 0, n)),
-        None => say(&rt, 34),
+        None => say(&rt, Refusal::Shelf),
     }
 }
