@@ -8,6 +8,9 @@ use lib.ListN.{length, length-append}
 use lib.Seq.{sets}
 use lib.Dec.{ltb}
 use borrow.Author.Tests.{eq-eqb, ne_eqb, lt-ltb, le-ltb, not-false}
+use Rattle.std.specs.Prelude.{Result, Ok, Err, MatchResult, is_ok}
+use Rattle.refusal.specs.declared.Refusal.{Refusal}
+use Rattle.refusal.specs.Refusal.{number_of, answer_of}
 use Rattle.laws.proofs.Cases.{if_yes, if_no, and_yes, and_no}
 use Rattle.laws.proofs.Elements.{by_test}
 use Rattle.laws.proofs.Writes.{join, from_front}
@@ -18,6 +21,16 @@ use Rattle.shelf.proofs.Rules.{at_most}
 use Rattle.compare.specs.Differences.{below, longer, differences}
 use Rattle.compare.specs.Texts.{last_word, phrase, texts_of, Further, report}
 use Rattle.compare.specs.Compare.{room, compare_answer, right_refused, compared, compared_into}
+
+-- ---- a shelf's refusal, as a side of it
+module _ {T : Type 0} where
+  pub passed : (r : Result T Refusal) → true ≡ is_ok r → answer_of r ≡ 0
+  passed (Ok value) e = refl
+  passed (Err d) e = absurd (cc)
+
+  pub refused_as : (P : T → Type 0) (Q : Refusal → Type 0) (r : Result T Refusal) → false ≡ is_ok r → MatchResult r P Q → (d : Refusal) × (answer_of r ≡ number_of d) × Q d
+  refused_as P Q (Ok value) e h = absurd (cc)
+  refused_as P Q (Err d) e h = (d, refl, h)
 
 -- ---- how many records
 shelf_most : (s : List ℕ) → shelf_answer s ≡ 0 → records_in s ≤ 4096
