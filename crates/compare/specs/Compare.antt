@@ -20,6 +20,10 @@ compare_answer left right out =
 unfoldable pub right_refused : List ℕ → List ℕ → Bool
 right_refused left right = eqb (shelf_answer left) 0 && not (eqb (shelf_answer right) 0)
 
+-- neither shelf is refused, and the output is too short
+unfoldable pub room_refused : List ℕ → List ℕ → List ℕ → Bool
+room_refused left right out = eqb (shelf_answer left) 0 && (eqb (shelf_answer right) 0 && ltb (length out) room)
+
 -- a number given back, whether it is the right shelf that is refused, and how many bytes were written
 pub record Compared : Type 0 where
   pub answer : ℕ
@@ -32,6 +36,13 @@ told (Ok n) = record { answer = 0; right = false; length = n }
 told (Err (unlisted.Left e)) = record { answer = number_of e; right = false; length = 0 }
 told (Err (unlisted.Right e)) = record { answer = number_of e; right = true; length = 0 }
 told (Err unlisted.Room) = record { answer = 10; right = false; length = 0 }
+
+-- whether the output is what is refused, and no shelf
+abbrev pub no_room : Result ℕ Unlisted → Bool
+no_room (Ok n) = false
+no_room (Err (unlisted.Left e)) = false
+no_room (Err (unlisted.Right e)) = false
+no_room (Err unlisted.Room) = true
 
 unfoldable pub compared : List ℕ → List ℕ → List ℕ → Compared
 compared left right out = record {

@@ -5,7 +5,7 @@ ghost use Rattle.std.specs.Prelude.{◌≡◌, [], ◌∷◌, ◌+◌, ◌*◌, 
 ghost use Rattle.std.proofs.lemmas.List.Edits.{sets};
 ghost use Rattle.compare.specs.Differences.{differs, only, first_byte, of_both, of_record, below, longer};
 ghost use Rattle.compare.specs.Texts.{phrase, text_of, Further};
-ghost use Rattle.compare.specs.Compare.{told, compared, compared_into};
+ghost use Rattle.compare.specs.Compare.{told, no_room, compared, room_refused, compared_into};
 
 use refusal::Refusal;
 use std::error::Error;
@@ -165,6 +165,7 @@ fn longer(left: &[u8], right: &[u8]) -> usize
 // Writes what two shelves differ in, at the output's start: 34 or 35 for left, then for right, then 10 where it is refused.
 pub fn list(left: &[u8], right: &[u8], out: &mut [u8]) -> Result<usize, Unlisted>
     ensures answer { told result ≡ compared left.now right.now out.old }
+    ensures room { no_room result ≡ room_refused left.now right.now out.old }
     ensures output { out.new ≡ compared_into left.now right.now out.old }
 {
     shelf::judge(left).map_err(Unlisted::Left)?;
