@@ -6,6 +6,7 @@
 ghost use Rattle.std.specs.Prelude.{◌≡◌, length};
 
 use crate::{input, say};
+use refusal::Refusal;
 use std::io;
 
 // A record more than a shelf may have, and a byte.
@@ -30,11 +31,11 @@ fn added(
 ) -> io::Result<()> {
     let e = summary.len().min(memory.len());
     input::fill(summary, &mut memory[0..e]);
-    say::one(
-        rt,
-        b"add",
-        shelf::add(shelf, given, &mut memory[0..e]) as u64,
-    )?;
+    let answer = match shelf::add(shelf, given, &mut memory[0..e]) {
+        Ok(()) => 0,
+        Err(refusal) => refusal.number(),
+    };
+    say::one(rt, b"add", answer.into())?;
     say::memory(rt, memory, e)
 }
 
@@ -54,16 +55,25 @@ pub(crate) fn add(rt: &impl Print, b: &[u8]) -> io::Result<()> {
     )
 }
 
-// How much is written: all that is due, or nothing.
-fn written(answer: u8, due: usize) -> usize {
-    if answer == 0 { due } else { 0 }
+// The answer, and the memory, of which all that is due is written or nothing.
+fn told(
+    rt: &impl Print,
+    name: &[u8],
+    written: Result<usize, Refusal>,
+    memory: &[u8],
+) -> io::Result<()> {
+    let (answer, length) = match written {
+        Ok(length) => (0, length),
+        Err(refusal) => (refusal.number(), 0),
+    };
+    say::one(rt, name, answer.into())?;
+    say::memory(rt, memory, length)
 }
 
 fn summarized(rt: &impl Print, shelf: &[u8], n: usize, memory: &mut [u8]) -> io::Result<()> {
     let e = n.min(memory.len());
-    let answer = shelf::summarize(shelf, &mut memory[0..e]);
-    say::one(rt, b"summarize", answer as u64)?;
-    say::memory(rt, memory, written(answer, 256))
+    let written = shelf::summarize(shelf, &mut memory[0..e]).map(|()| 256);
+    told(rt, b"summarize", written, memory)
 }
 
 // A whole record.
@@ -88,9 +98,8 @@ fn made(
     memory: &mut [u8],
 ) -> io::Result<()> {
     let e = n.min(memory.len());
-    let answer = shelf::make(level, version, packet, &mut memory[0..e]);
-    say::one(rt, b"make", answer as u64)?;
-    say::memory(rt, memory, written(answer, 256))
+    let written = shelf::make(level, version, packet, &mut memory[0..e]).map(|()| 256);
+    told(rt, b"make", written, memory)
 }
 
 // A whole record.
@@ -107,9 +116,8 @@ pub(crate) fn make(rt: &impl Print, b: &[u8]) -> io::Result<()> {
 
 fn lined(rt: &impl Print, given: &[u8], n: usize, memory: &mut [u8]) -> io::Result<()> {
     let e = n.min(memory.len());
-    let w = shelf::line(given, &mut memory[0..e]);
-    say::one(rt, b"line", w.answer as u64)?;
-    say::memory(rt, memory, w.length)
+    let written = shelf::line(given, &mut memory[0..e]);
+    told(rt, b"line", written, memory)
 }
 
 // A whole record.

@@ -8,6 +8,9 @@ use lib.ListN.{length, length-append}
 use lib.Seq.{sets}
 use lib.Dec.{ltb}
 use borrow.Author.Tests.{eq-eqb, ne_eqb, lt-ltb, le-ltb, not-false}
+use Rattle.std.specs.Prelude.{Result, Ok, Err, MatchResult, is_ok}
+use Rattle.refusal.specs.declared.Refusal.{Refusal}
+use Rattle.refusal.specs.Refusal.{number_of, answer_of}
 use Rattle.laws.proofs.Cases.{if_yes, if_no, and_yes, and_no}
 use Rattle.laws.proofs.Elements.{by_test}
 use Rattle.laws.proofs.Writes.{join, from_front}
@@ -17,7 +20,17 @@ use Rattle.shelf.specs.Shelf.{whole, shelf_cases, shelf_answer}
 use Rattle.shelf.proofs.Rules.{at_most}
 use Rattle.compare.specs.Differences.{below, longer, differences}
 use Rattle.compare.specs.Texts.{last_word, phrase, texts_of, Further, report}
-use Rattle.compare.specs.Compare.{room, compare_answer, right_refused, compared, compared_into}
+use Rattle.compare.specs.Compare.{room, compare_answer, right_refused, room_refused, compared, compared_into}
+
+-- ---- a shelf's refusal, as a side of it
+module _ {T : Type 0} where
+  pub passed : (r : Result T Refusal) → true ≡ is_ok r → answer_of r ≡ 0
+  passed (Ok value) e = refl
+  passed (Err d) e = absurd (cc)
+
+  pub refused_as : (P : T → Type 0) (Q : Refusal → Type 0) (r : Result T Refusal) → false ≡ is_ok r → MatchResult r P Q → (d : Refusal) × (answer_of r ≡ number_of d) × Q d
+  refused_as P Q (Ok value) e h = absurd (cc)
+  refused_as P Q (Err d) e h = (d, refl, h)
 
 -- ---- how many records
 shelf_most : (s : List ℕ) → shelf_answer s ≡ 0 → records_in s ≤ 4096
@@ -63,6 +76,10 @@ module _ (l r out : List ℕ) where
   pub left_refused : (a : ℕ) → a ≡ shelf_answer l → (a ≡ 0 → ⊥) → Says a false 0 out
   left_refused a e z = let w = left_is (λ (y : shelf_answer l ≡ 0). z (e ∙ y)) in refused a false z (w.0 ∙ sym e) w.1
 
+  pub room_left : (a : ℕ) → a ≡ shelf_answer l → (a ≡ 0 → ⊥) → false ≡ room_refused l r out
+  unfolding room_refused
+  room_left a e z = sym (and_no _ (ne_eqb (shelf_answer l) 0 (λ (y : shelf_answer l ≡ 0). z (e ∙ y))))
+
   module _ (el : shelf_answer l ≡ 0) where
     pub right_is : (shelf_answer r ≡ 0 → ⊥) → (compare_answer l r out ≡ shelf_answer r) × (right_refused l r ≡ true)
     unfolding compare_answer right_refused
@@ -74,7 +91,22 @@ module _ (l r out : List ℕ) where
     pub right_refused_lem : (a : ℕ) → a ≡ shelf_answer r → (a ≡ 0 → ⊥) → Says a true 0 out
     right_refused_lem a e z = let w = right_is (λ (y : shelf_answer r ≡ 0). z (e ∙ y)) in refused a true z (w.0 ∙ sym e) w.1
 
+    pub room_right : (a : ℕ) → a ≡ shelf_answer r → (a ≡ 0 → ⊥) → false ≡ room_refused l r out
+    unfolding room_refused
+    room_right a e z =
+        sym (and_yes _ (eq-eqb (shelf_answer l) 0 el) ∙ and_no _ (ne_eqb (shelf_answer r) 0 (λ (y : shelf_answer r ≡ 0). z (e ∙ y))))
+
     module _ (er : shelf_answer r ≡ 0) where
+      both_stand : room_refused l r out ≡ ltb (length out) room
+      unfolding room_refused
+      both_stand = and_yes _ (eq-eqb (shelf_answer l) 0 el) ∙ and_yes _ (eq-eqb (shelf_answer r) 0 er)
+
+      pub room_short : length out < room → true ≡ room_refused l r out
+      room_short h = sym (both_stand ∙ lt-ltb (length out) room h)
+
+      pub room_enough : room ≤ length out → false ≡ room_refused l r out
+      room_enough h = sym (both_stand ∙ le-ltb (length out) room h)
+
       neither : right_refused l r ≡ false
       unfolding right_refused
       neither = and_yes _ (eq-eqb (shelf_answer l) 0 el) ∙ ap not (eq-eqb (shelf_answer r) 0 er)

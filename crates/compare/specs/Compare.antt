@@ -1,7 +1,9 @@
 -- What comparing answers and leaves (paper 02, K9): 34 and 35 for left, then for right, then 10.
-use Rattle.std.specs.Prelude.{Bool, cond, not, ◌&&◌, List, ◌++◌, ℕ, length, drop, eqb, ltb}
+use Rattle.std.specs.Prelude.{Result, Ok, Err, Bool, false, true, cond, not, ◌&&◌, List, ◌++◌, ℕ, length, drop, eqb, ltb}
 use Rattle.shelf.specs.Shelf.{shelf_answer}
-use Rattle.compare.specs.declared.Compared.{Compared}
+use Rattle.refusal.specs.Refusal.{number_of}
+use Rattle.compare.specs.declared.Unlisted.{Unlisted}
+use Rattle.compare.specs.declared.Unlisted.TheVariants as unlisted
 use Rattle.compare.specs.Texts.{report}
 
 -- room for the longest report: 4,097 lines, none longer than 60
@@ -17,6 +19,30 @@ compare_answer left right out =
 -- it is the right shelf that is refused
 unfoldable pub right_refused : List ℕ → List ℕ → Bool
 right_refused left right = eqb (shelf_answer left) 0 && not (eqb (shelf_answer right) 0)
+
+-- neither shelf is refused, and the output is too short
+unfoldable pub room_refused : List ℕ → List ℕ → List ℕ → Bool
+room_refused left right out = eqb (shelf_answer left) 0 && (eqb (shelf_answer right) 0 && ltb (length out) room)
+
+-- a number given back, whether it is the right shelf that is refused, and how many bytes were written
+pub record Compared : Type 0 where
+  pub answer : ℕ
+  pub right : Bool
+  pub length : ℕ
+
+-- the three that a result tells: beside a refusal nothing was written
+abbrev pub told : Result ℕ Unlisted → Compared
+told (Ok n) = record { answer = 0; right = false; length = n }
+told (Err (unlisted.Left e)) = record { answer = number_of e; right = false; length = 0 }
+told (Err (unlisted.Right e)) = record { answer = number_of e; right = true; length = 0 }
+told (Err unlisted.Room) = record { answer = 10; right = false; length = 0 }
+
+-- whether the output is what is refused, and no shelf
+abbrev pub no_room : Result ℕ Unlisted → Bool
+no_room (Ok n) = false
+no_room (Err (unlisted.Left e)) = false
+no_room (Err (unlisted.Right e)) = false
+no_room (Err unlisted.Room) = true
 
 unfoldable pub compared : List ℕ → List ℕ → List ℕ → Compared
 compared left right out = record {

@@ -5,15 +5,35 @@ ghost use Rattle.std.specs.Prelude.{◌≡◌, [], ◌∷◌, ◌+◌, ◌*◌, 
 ghost use Rattle.std.proofs.lemmas.List.Edits.{sets};
 ghost use Rattle.compare.specs.Differences.{differs, only, first_byte, of_both, of_record, below, longer};
 ghost use Rattle.compare.specs.Texts.{phrase, text_of, Further};
-ghost use Rattle.compare.specs.Compare.{compared, compared_into};
+ghost use Rattle.compare.specs.Compare.{told, no_room, compared, room_refused, compared_into};
 
-// What is said of a comparison: the answer, whether it is the right shelf that is refused, and how many bytes were written.
-#[derive(Clone, Copy)]
-pub struct Compared {
-    pub answer: u8,
-    pub right: bool,
-    pub length: usize,
+use refusal::Refusal;
+use std::error::Error;
+use std::fmt;
+
+// Why two shelves aren't compared.
+#[derive(Clone, Copy, Debug, PartialEq, Eq)]
+pub enum Unlisted {
+    // The left shelf is refused.
+    Left(Refusal),
+    // The right shelf is refused.
+    Right(Refusal),
+    // The lent output is too short.
+    Room,
 }
+
+// The number and the file's name; too short an output is told as left's.
+impl fmt::Display for Unlisted {
+    fn fmt<W: fmt::Write>(&self, f: &mut fmt::Formatter<W>) -> fmt::Result {
+        match self {
+            Unlisted::Left(refusal) => write!(f, "{refusal} left"),
+            Unlisted::Right(refusal) => write!(f, "{refusal} right"),
+            Unlisted::Room => write!(f, "{} left", Refusal::Room),
+        }
+    }
+}
+
+impl Error for Unlisted {}
 
 // How far the list has come: the byte behind its last line, and how many lines it has.
 #[derive(Clone, Copy)]
@@ -143,38 +163,16 @@ fn longer(left: &[u8], right: &[u8]) -> usize
 }
 
 // Writes what two shelves differ in, at the output's start: 34 or 35 for left, then for right, then 10 where it is refused.
-pub fn list(left: &[u8], right: &[u8], out: &mut [u8]) -> Compared
-    ensures answer { result ≡ compared left.now right.now out.old }
+pub fn list(left: &[u8], right: &[u8], out: &mut [u8]) -> Result<usize, Unlisted>
+    ensures answer { told result ≡ compared left.now right.now out.old }
+    ensures room { no_room result ≡ room_refused left.now right.now out.old }
     ensures output { out.new ≡ compared_into left.now right.now out.old }
 {
-    let of_left = shelf::judge(left);
-    if of_left != 0 {
-        return Compared {
-            answer: of_left,
-            right: false,
-            length: 0,
-        };
-    }
-    let of_right = shelf::judge(right);
-    if of_right != 0 {
-        return Compared {
-            answer: of_right,
-            right: true,
-            length: 0,
-        };
-    }
+    shelf::judge(left).map_err(Unlisted::Left)?;
+    shelf::judge(right).map_err(Unlisted::Right)?;
     if out.len() < 262144 {
-        return Compared {
-            answer: 10,
-            right: false,
-            length: 0,
-        };
+        return Err(Unlisted::Room);
     }
     let so = put_below(left, right, longer(left, right), out);
-    let end = put_phrase(b"differences ", so.lines, b"\n", so.at, out);
-    Compared {
-        answer: 0,
-        right: false,
-        length: end,
-    }
+    Ok(put_phrase(b"differences ", so.lines, b"\n", so.at, out))
 }

@@ -14,27 +14,19 @@ fn read(rt: &impl Files, name: &str, space: &mut [u8]) -> usize {
     intake::whole_file(rt, name, space).unwrap_or(1)
 }
 
-fn say(rt: &impl Print, answer: u8, right: bool) -> io::Result<()> {
-    if right {
-        println!(rt; "{answer} right")
-    } else {
-        println!(rt; "{answer} left")
-    }
-}
-
 fn main(rt: HostRuntime) -> io::Result<()> {
     let mut left = intake::room::<SHELF>();
     let mut right = intake::room::<SHELF>();
     let n = read(&rt, "left", &mut left);
     let m = read(&rt, "right", &mut right);
     let mut text = intake::room::<REPORT>();
-    let compared = compare::list(
+    let listed = compare::list(
         octets::part(&left, 0, n),
         octets::part(&right, 0, m),
         &mut text,
     );
-    if compared.answer != 0 {
-        return say(&rt, compared.answer, compared.right);
+    match listed {
+        Ok(length) => rt.write_all(octets::part(&text, 0, length)),
+        Err(refusal) => println!(&rt; "{refusal}"),
     }
-    rt.write_all(octets::part(&text, 0, compared.length))
 }

@@ -6,6 +6,7 @@
 use collector::Holdings;
 use frame::Heading;
 use receiver::Receiver;
+use refusal::Refusal;
 use std::io;
 use std::io::Read;
 
@@ -33,11 +34,14 @@ impl Keeping<'_> {
     fn keep(&mut self, rt: &impl Print, record: &[u8]) -> io::Result<()> {
         let length = self.length;
         let mut summary = self.summary;
-        let answer = shelf::add(octets::part(self.shelf, 0, length), record, &mut summary);
-        rt.write_all(&[answer])?;
-        if answer != 0 {
-            return Ok(());
+        if let Err(refusal) = shelf::add(
+            octets::part(self.shelf, 0, length),
+            record,
+            &mut summary,
+        ) {
+            return rt.write_all(&[refusal.number()]);
         }
+        rt.write_all(&[0])?;
         rt.write_all(record)?;
         rt.write_all(&summary)?;
         self.summary = summary;
@@ -50,7 +54,13 @@ impl Keeping<'_> {
         let mut packet = [0u8; 250];
         let n = collector::copy(self.collector, pair.level, pair.version, &mut packet).length;
         let mut record = [0u8; 256];
-        shelf::make(pair.level, pair.version, octets::part(&packet, 0, n), &mut record);
+        // What is made of a packet that is refused would be refused in its turn, with 35.
+        let _ = shelf::make(
+            pair.level,
+            pair.version,
+            octets::part(&packet, 0, n),
+            &mut record,
+        );
         self.keep(rt, &record)?;
         self.collector = collector::release(self.collector, pair.level, pair.version).collector;
         Ok(())
@@ -116,11 +126,10 @@ fn start(
     shelf: &mut [u8],
 ) -> io::Result<()> {
     let mut summary = [0u8; 256];
-    let answer = shelf::summarize(octets::part(shelf, 0, length), &mut summary);
-    rt.write_all(&[answer])?;
-    if answer != 0 {
-        return Ok(());
+    if let Err(refusal) = shelf::summarize(octets::part(shelf, 0, length), &mut summary) {
+        return rt.write_all(&[refusal.number()]);
     }
+    rt.write_all(&[0])?;
     rt.write_all(&summary)?;
     let keeping = Keeping {
         receiver: receiver::fresh(),
@@ -141,6 +150,6 @@ fn main(rt: HostRuntime) -> io::Result<()> {
     let mut space = intake::room::<SHELF>();
     match intake::whole_file(&rt, "shelf", &mut space) {
         Some(n) => start(&rt, &mut rt.reader(), n, &mut space),
-        None => rt.write_all(&[34]),
+        None => rt.write_all(&[Refusal::Shelf.number()]),
     }
 }

@@ -1,29 +1,29 @@
 // Prints the shelf, the file `shelf` of the current folder: a line for each record, or the number of a refusal alone.
 #![tactic(auto)]
 
+use refusal::Refusal;
 use std::io;
 
-// Prints a number and the line's end.
-fn say(rt: &impl Print, answer: u8) -> io::Result<()> {
-    println!(rt; "{answer}")
+// Prints a refusal's number and the line's end.
+fn say(rt: &impl Print, refusal: Refusal) -> io::Result<()> {
+    println!(rt; "{refusal}")
 }
 
 // The lines of the records.
 fn print(rt: &impl Print, shelf: &[u8]) -> io::Result<()> {
     for record in shelf.chunks_exact(256) {
         let mut text = [0u8; 510];
-        let written = shelf::line(record, &mut text);
-        rt.write_all(octets::part(&text, 0, written.length))?;
+        let length = shelf::line(record, &mut text).unwrap_or(0);
+        rt.write_all(octets::part(&text, 0, length))?;
     }
     Ok(())
 }
 
 fn show(rt: &impl Print, shelf: &[u8]) -> io::Result<()> {
-    let answer = shelf::judge(shelf);
-    if answer != 0 {
-        return say(rt, answer);
+    match shelf::judge(shelf) {
+        Ok(()) => print(rt, shelf),
+        Err(refusal) => say(rt, refusal),
     }
-    print(rt, shelf)
 }
 
 // The bytes of 4,096 records.
@@ -34,6 +34,6 @@ fn main(rt: HostRuntime) -> io::Result<()> {
     let mut space = intake::room::<SHELF>();
     match intake::whole_file(&rt, "shelf", &mut space) {
         Some(n) => show(&rt, octets::part(&space, 0, n)),
-        None => say(&rt, 34),
+        None => say(&rt, Refusal::Shelf),
     }
 }

@@ -1,11 +1,12 @@
 -- What the shelf's functions answer and leave (paper 02, K6).
-use Rattle.std.specs.Prelude.{Bool, cond, not, ◌&&◌, List, [], ◌∷◌, ◌++◌, ℕ, ◌%◌, length, drop, eqb, leb, ltb}
+use Rattle.std.specs.Prelude.{Result, Bool, cond, not, ◌&&◌, List, [], ◌∷◌, ◌++◌, ℕ, ◌%◌, length, drop, eqb, leb, ltb}
 use Rattle.laws.specs.Below.{below}
 use Rattle.laws.specs.Refusals.{Case, first}
+use Rattle.refusal.specs.declared.Refusal.{Refusal}
+use Rattle.refusal.specs.Refusal.{answer_of, value_or}
 use Rattle.frame.specs.Heading.{reserved}
 use Rattle.air.specs.OnAir.{sized}
 use Rattle.print.specs.Records.{record_line}
-use Rattle.shelf.specs.declared.Written.{Written}
 use Rattle.shelf.specs.Record.{level_in, version_in, packet_in, type_in, right, record_of}
 use Rattle.shelf.specs.Summary.{record_at, records_in, summary_of, noted}
 
@@ -75,6 +76,15 @@ line_cases given out = (not (fits given), 34) ∷ (not (right given), 35) ∷ (l
 
 unfoldable pub line_answer : List ℕ → List ℕ → ℕ
 line_answer given out = first (line_cases given out)
+
+-- a number given back and how many bytes were written
+pub record Written : Type 0 where
+  pub answer : ℕ
+  pub length : ℕ
+
+-- the two that a result tells: beside a refusal nothing was written
+abbrev pub told : Result ℕ Refusal → Written
+told r = record { answer = answer_of r; length = value_or 0 r }
 
 -- the line's length beside 0, and 0 beside a refusal
 unfoldable pub lined : List ℕ → List ℕ → Written

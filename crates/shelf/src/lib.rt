@@ -8,14 +8,10 @@ ghost use Rattle.std.proofs.lemmas.List.Edits.{sets};
 ghost use Rattle.laws.specs.Scan.{all};
 ghost use Rattle.frame.specs.Heading.{reserved};
 ghost use Rattle.shelf.specs.Record.{size_in, right};
-ghost use Rattle.shelf.specs.Shelf.{whole, all_right, shelf_answer, add_answer, added, summary_answer, summarized, make_answer, made, lined, line_output};
+ghost use Rattle.shelf.specs.Shelf.{whole, all_right, shelf_answer, add_answer, added, summary_answer, summarized, make_answer, made, told, lined, line_output};
+ghost use Rattle.refusal.specs.Refusal.{answer_of};
 
-// What is said of a line: the answer, and how many bytes were written.
-#[derive(Clone, Copy)]
-pub struct Written {
-    pub answer: u8,
-    pub length: usize,
-}
+use refusal::Refusal;
 
 // Whether every byte is this one.
 fn all_are(b: &[u8], value: u8) -> bool
@@ -73,51 +69,51 @@ fn are_right(shelf: &[u8]) -> bool
 }
 
 // Whether a shelf may be used: 34 or 35 where it may not.
-pub fn judge(shelf: &[u8]) -> u8
-    ensures { result ≡ shelf_answer shelf.now }
+pub fn judge(shelf: &[u8]) -> Result<(), Refusal>
+    ensures { answer_of result ≡ shelf_answer shelf.now }
 {
     if !is_whole(shelf) {
-        return 34;
+        return Err(Refusal::Shelf);
     }
     if !are_right(shelf) {
-        return 35;
+        return Err(Refusal::Record);
     }
-    0
+    Ok(())
 }
 
 // Rewrites in the summary the entry of the record's type, for a record behind the shelf's last: 34, 35 or 36 where it is refused.
-pub fn add(shelf: &[u8], given: &[u8], summary: &mut [u8]) -> u8
-    ensures answer { result ≡ add_answer shelf.now given.now summary.old }
+pub fn add(shelf: &[u8], given: &[u8], summary: &mut [u8]) -> Result<(), Refusal>
+    ensures answer { answer_of result ≡ add_answer shelf.now given.now summary.old }
     ensures output { summary.new ≡ added shelf.now given.now summary.old }
 {
     if !is_whole(shelf) || given.len() != 256 || summary.len() != 256 {
-        return 34;
+        return Err(Refusal::Shelf);
     }
     if !are_right(shelf) || !is_right(given) {
-        return 35;
+        return Err(Refusal::Record);
     }
     let number = shelf.len() / 256;
     if number == 4096 {
-        return 36;
+        return Err(Refusal::FullShelf);
     }
     summary::note(summary, summary::type_in(given), number as u32);
-    0
+    Ok(())
 }
 
 // Writes the summary of a shelf: 34 or 35 where it is refused.
-pub fn summarize(shelf: &[u8], summary: &mut [u8]) -> u8
-    ensures answer { result ≡ summary_answer shelf.now summary.old }
+pub fn summarize(shelf: &[u8], summary: &mut [u8]) -> Result<(), Refusal>
+    ensures answer { answer_of result ≡ summary_answer shelf.now summary.old }
     ensures output { summary.new ≡ summarized shelf.now summary.old }
 {
     if !is_whole(shelf) || summary.len() != 256 {
-        return 34;
+        return Err(Refusal::Shelf);
     }
     if !are_right(shelf) {
-        return 35;
+        return Err(Refusal::Record);
     }
     summary::clear(summary);
     summary::count(shelf, summary);
-    0
+    Ok(())
 }
 
 // Writes 0xFF from a byte up to the last but two, and zeros there.
@@ -138,21 +134,21 @@ fn put_packet(out: &mut [u8], packet: &[u8])
 }
 
 // Writes the record of a whole packet: the on-air writer's 20, 13 and 27, then 34 where it is refused.
-pub fn make(level: u8, version: u8, packet: &[u8], out: &mut [u8]) -> u8
-    ensures answer { result ≡ make_answer level version packet.now out.old }
+pub fn make(level: u8, version: u8, packet: &[u8], out: &mut [u8]) -> Result<(), Refusal>
+    ensures answer { answer_of result ≡ make_answer level version packet.now out.old }
     ensures output { out.new ≡ made level version packet.now out.old }
 {
     if !air::right_size(packet) {
-        return 20;
+        return Err(Refusal::PacketSize);
     }
     if is_reserved(level) {
-        return 13;
+        return Err(Refusal::Level);
     }
     if version > 31 {
-        return 27;
+        return Err(Refusal::Range);
     }
     if out.len() != 256 {
-        return 34;
+        return Err(Refusal::Shelf);
     }
     let size = packet.len();
     out[0] = level;
@@ -161,25 +157,19 @@ pub fn make(level: u8, version: u8, packet: &[u8], out: &mut [u8]) -> u8
     out[3] = size as u8;
     put_packet(out, packet);
     put_end(out, 4 + size);
-    0
+    Ok(())
 }
 
 // Writes a record's line: 34, 35 or, where the output is shorter than the line, 10 where it is refused.
-pub fn line(given: &[u8], out: &mut [u8]) -> Written
-    ensures answer { result ≡ lined given.now out.old }
+pub fn line(given: &[u8], out: &mut [u8]) -> Result<usize, Refusal>
+    ensures answer { told result ≡ lined given.now out.old }
     ensures output { out.new ≡ line_output given.now out.old }
 {
     if given.len() != 256 {
-        return Written {
-            answer: 34,
-            length: 0,
-        };
+        return Err(Refusal::Shelf);
     }
     if !is_right(given) {
-        return Written {
-            answer: 35,
-            length: 0,
-        };
+        return Err(Refusal::Record);
     }
     let n = print::record_line(
         octets::byte(given, 0),
@@ -188,13 +178,7 @@ pub fn line(given: &[u8], out: &mut [u8]) -> Written
         out,
     );
     if n == 0 {
-        return Written {
-            answer: 10,
-            length: 0,
-        };
+        return Err(Refusal::Room);
     }
-    Written {
-        answer: 0,
-        length: n,
-    }
+    Ok(n)
 }
