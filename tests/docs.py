@@ -106,7 +106,7 @@ def tells(crate, left, head):
     """Whether the left side names the whole answer by what is told of it: a law of the crate, `told_apart`, says that no two answers are told alike."""
     if left == "answer_of result":
         return "-> Result<(), Refusal>" in " ".join(head.split())
-    return re.fullmatch(r"told(?: \w+)? result", left) and any(re.search(r"^ *pub told_apart :", text(p), re.M) for p in files("crates/%s/proofs/*.antt" % crate))
+    return re.fullmatch(r"(?:told|no_room)(?: \w+)? result", left) and any(re.search(r"^ *pub told_apart :", text(p), re.M) for p in files("crates/%s/proofs/*.antt" % crate))
 
 
 def is_closed(crate, contract, forms):

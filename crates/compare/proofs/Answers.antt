@@ -1,6 +1,6 @@
 -- What comparing answers and leaves, one law for each way out of the code. Assumes nothing.
 use mathlib.Core.Path.{◌≡◌, refl, sym, ap, ◌∙◌}
-use mathlib.Core.Bool.{Bool, true, false, not}
+use mathlib.Core.Bool.{Bool, true, false, not, true≢false}
 use mathlib.Core.List.{List, [], ◌∷◌}
 use Prim.Native.Nat.{ℕ, ◌+◌, ◌≤◌, ◌<◌}
 use native.Mathlib.Omega.{arith}
@@ -21,6 +21,11 @@ use Rattle.shelf.proofs.Rules.{at_most}
 use Rattle.compare.specs.Differences.{below, longer, differences}
 use Rattle.compare.specs.Texts.{last_word, phrase, texts_of, Further, report}
 use Rattle.compare.specs.Compare.{room, compare_answer, right_refused, room_refused, compared, compared_into}
+use Rattle.std.specs.Prelude.{Result, Ok, Err}
+use Rattle.refusal.proofs.Numbers.{some_number, same_number}
+use Rattle.compare.specs.declared.Unlisted.{Unlisted}
+use Rattle.compare.specs.declared.Unlisted.TheVariants as unlisted
+use Rattle.compare.specs.Compare.{Compared, told, no_room}
 
 -- ---- a shelf's refusal, as a side of it
 module _ {T : Type 0} where
@@ -130,3 +135,24 @@ module _ (l r out : List ℕ) where
           let d = (done_is h).0 in
           let t = eq-eqb (compare_answer l r out) 0 d in
           (rw (t, d, neither, en) refl, ex ∙ from_front (report l r) out (omega (arith, en)) ∙ sym (if_yes _ _ t))
+
+-- what is told of a result tells the result
+pub told_apart : (r s : Result ℕ Unlisted) → told r ≡ told s → no_room r ≡ no_room s → r ≡ s
+told_apart (Ok n) (Ok m) e f = ap {B = Result ℕ Unlisted} (λ k. Ok k) (ap (λ (t : Compared). t.length) e)
+told_apart (Ok n) (Err (unlisted.Left d)) e f = absurd (some_number d (sym (ap (λ (t : Compared). t.answer) e)))
+told_apart (Ok n) (Err (unlisted.Right d)) e f = absurd (true≢false (sym (ap (λ (t : Compared). t.right) e)))
+told_apart (Ok n) (Err unlisted.Room) e f = absurd (true≢false (sym f))
+told_apart (Err (unlisted.Left d)) (Ok m) e f = absurd (some_number d (ap (λ (t : Compared). t.answer) e))
+told_apart (Err (unlisted.Left d)) (Err (unlisted.Left c)) e f =
+    ap {B = Result ℕ Unlisted} (λ x. Err (unlisted.Left x)) (same_number d c (ap (λ (t : Compared). t.answer) e))
+told_apart (Err (unlisted.Left d)) (Err (unlisted.Right c)) e f = absurd (true≢false (sym (ap (λ (t : Compared). t.right) e)))
+told_apart (Err (unlisted.Left d)) (Err unlisted.Room) e f = absurd (true≢false (sym f))
+told_apart (Err (unlisted.Right d)) (Ok m) e f = absurd (true≢false (ap (λ (t : Compared). t.right) e))
+told_apart (Err (unlisted.Right d)) (Err (unlisted.Left c)) e f = absurd (true≢false (ap (λ (t : Compared). t.right) e))
+told_apart (Err (unlisted.Right d)) (Err (unlisted.Right c)) e f =
+    ap {B = Result ℕ Unlisted} (λ x. Err (unlisted.Right x)) (same_number d c (ap (λ (t : Compared). t.answer) e))
+told_apart (Err (unlisted.Right d)) (Err unlisted.Room) e f = absurd (true≢false (sym f))
+told_apart (Err unlisted.Room) (Ok m) e f = absurd (true≢false f)
+told_apart (Err unlisted.Room) (Err (unlisted.Left c)) e f = absurd (true≢false f)
+told_apart (Err unlisted.Room) (Err (unlisted.Right c)) e f = absurd (true≢false f)
+told_apart (Err unlisted.Room) (Err unlisted.Room) e f = refl

@@ -20,6 +20,10 @@ use Rattle.shelf.specs.Shelf.{whole, all_right, shelf_cases, shelf_answer, add_c
 use Rattle.shelf.proofs.Rules.{keeps, take_most}
 use Rattle.print.specs.Records.{no_line, record_written, record_into}
 use Rattle.print.proofs.RecordLine.{record_length}
+use Rattle.std.specs.Prelude.{Result}
+use Rattle.refusal.specs.declared.Refusal.{Refusal}
+use Rattle.refusal.proofs.Numbers.{told_once}
+use Rattle.shelf.specs.Shelf.{Written, told}
 
 -- ---- a shelf by itself
 module _ (s : List ℕ) where
@@ -246,3 +250,7 @@ pub same_words : (r : List ℕ) (l v n : ℕ) (p : List ℕ) → l ≡ level_in 
 same_words r l v n p el ev en ep o =
     let q : p ≡ packet_in r = ep ∙ ap (λ (k : ℕ). take k (drop 4 r)) en in
     rw (el, ev, q) (refl, refl)
+
+-- what is told of a result tells the result
+pub told_apart : (r s : Result ℕ Refusal) → told r ≡ told s → r ≡ s
+told_apart r s e = told_once 0 r s (ap (λ (t : Written). t.answer) e) (ap (λ (t : Written). t.length) e)
