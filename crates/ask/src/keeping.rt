@@ -73,9 +73,12 @@ fn copied(
     memory: &mut [u8],
 ) -> io::Result<()> {
     let e = n.min(memory.len());
-    let a = collector::copy(c, level, version, &mut memory[0..e]);
-    say::one(rt, b"copy", a.answer as u64)?;
-    say::memory(rt, memory, a.length)
+    let (answer, length) = match collector::copy(c, level, version, &mut memory[0..e]) {
+        Ok(length) => (0, length),
+        Err(refusal) => (refusal.number(), 0),
+    };
+    say::one(rt, b"copy", answer.into())?;
+    say::memory(rt, memory, length)
 }
 
 fn pending(b: &[u8]) -> Receiver {

@@ -7,11 +7,10 @@ use Rattle.frame.specs.Heading.{refusals}
 use Rattle.collector.specs.declared.Place.{Place}
 use Rattle.collector.specs.declared.Collector.{Collector}
 use Rattle.collector.specs.declared.Offered.{Offered}
-use Rattle.collector.specs.declared.Copied.{Copied}
 use Rattle.collector.specs.declared.Holding.{Holding}
 use Rattle.collector.specs.declared.Holdings.{Holdings}
 use Rattle.collector.specs.declared.Outcome.{Outcome}
-use Rattle.collector.specs.Places.{copy_cases}
+use Rattle.collector.specs.Places.{copy_cases, Copied}
 use Rattle.collector.specs.Collector.{nothing, good, place_of, piece_of, take_cases, offered, released, answered, copied}
 
 -- ---- a number and its marks

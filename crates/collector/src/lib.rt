@@ -4,7 +4,7 @@
 
 ghost use Rattle.std.specs.Prelude.{◌≡◌, true, ◌&&◌, ◌<◌, length, MatchOption};
 ghost use Rattle.laws.specs.Scan.{all};
-ghost use Rattle.collector.specs.Places.{Small, pairs_apart};
+ghost use Rattle.collector.specs.Places.{Small, pairs_apart, copy_told};
 ghost use Rattle.collector.specs.Collector.{good, index_of_pair, index_of_free, put, piece_with, kept, begun, taken_in};
 ghost use Rattle.collector.specs.Layout.{top_clear, tops_clear, as_place, as_collector, as_offered, no_holdings, offer_gives, release_gives, copy_gives, copy_leaves};
 
@@ -12,6 +12,7 @@ mod places;
 mod whole;
 
 pub use frame::{Heading, Number, Total};
+use refusal::Refusal;
 
 // Room for one packet: the pair and total that it is held for, bit k for each number k held (the top bit is 0), and the bytes.
 #[derive(Clone, Copy)]
@@ -69,13 +70,6 @@ pub struct Piece {
 pub struct Offered {
     pub answer: u8,
     pub collector: Collector,
-}
-
-// What a copy gives back: its answer, and how many bytes it wrote.
-#[derive(Clone, Copy)]
-pub struct Copied {
-    pub answer: u8,
-    pub length: usize,
 }
 
 // A collector that holds nothing.
@@ -260,22 +254,16 @@ pub fn release(collector: Holdings, level: u8, version: u8) -> Outcome
     }
 }
 
-// Copies the pair's packet to the start of `out`: 28, 18, 10, else 0 and the packet's size.
-pub fn copy(collector: Holdings, level: u8, version: u8, out: &mut [u8]) -> Copied
-    ensures value { result ≡ copy_gives collector level version (length out.old) }
+// Copies the pair's packet to the start of `out`, and gives the packet's size: 28, 18, 10 where it can't.
+pub fn copy(collector: Holdings, level: u8, version: u8, out: &mut [u8]) -> Result<usize, Refusal>
+    ensures value { copy_told result ≡ copy_gives collector level version (length out.old) }
     ensures bytes { out.new ≡ copy_leaves collector level version out.old }
 {
     if !is_good(collector) {
-        return Copied {
-            answer: 28,
-            length: 0,
-        };
+        return Err(Refusal::State);
     }
     match index_of(collector, level, version) {
         Some(i) => places::copy_out(collector.places[i], out),
-        None => Copied {
-            answer: 18,
-            length: 0,
-        },
+        None => Err(Refusal::Unheld),
     }
 }

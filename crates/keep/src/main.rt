@@ -50,9 +50,15 @@ impl Keeping<'_> {
     // The packet of a frame's pair is whole: it is kept, and the pair released.
     fn take_whole(&mut self, rt: &impl Print, pair: Heading) -> io::Result<()> {
         let mut packet = [0u8; 250];
-        let n = collector::copy(self.collector, pair.level, pair.version, &mut packet).length;
+        let copied = collector::copy(self.collector, pair.level, pair.version, &mut packet);
+        let n = copied.unwrap_or(0);
         let mut record = [0u8; 256];
-        shelf::make(pair.level, pair.version, octets::part(&packet, 0, n), &mut record);
+        shelf::make(
+            pair.level,
+            pair.version,
+            octets::part(&packet, 0, n),
+            &mut record,
+        );
         self.keep(rt, &record)?;
         self.collector = collector::release(self.collector, pair.level, pair.version).collector;
         Ok(())

@@ -24,7 +24,7 @@ returns c = let x = c.args in
     let h = c.unwrap-h.result in
     let eh = ap (λ (r : Result Heading Refusal). (told r).heading) (sym c.unwrap-h.ensures) ∙ ap (λ (y : Headed). y.heading) c.heading_of.ensures ∙ heading_is (ready_for x.board.collector f) f (ap (λ (y : Outcome). y.answer) (sym e) ∙ c.requires.1) in
     let p = c.part.result.now in
-    let ep = packet_copied x.offered.collector h.level h.version c.copy-n.result _ p c.copy-n.ensures.value c.copy-n.ensures.bytes c.part.ensures in record {
+    let ep = packet_copied x.offered.collector h.level h.version c.copy.result c.unwrap_or-n.result _ p c.copy.ensures.value c.unwrap_or-n.ensures c.copy.ensures.bytes c.part.ensures in record {
       answer = whole_heard_lem x.board f x.out.now x.offered e h eh p ep c.take_in-shown.result c.release.result c.level_with.result c.take_in-shown.ensures.answer c.release.ensures c.level_with.ensures;
       output = c.take_in-shown.ensures.output ∙ whole_output x.board f x.out.now x.offered e h eh p ep;
     }
