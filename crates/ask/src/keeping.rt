@@ -58,10 +58,13 @@ fn offered(rt: &impl Print, c: Holdings, frame: &[u8]) -> io::Result<Holdings> {
 }
 
 fn released(rt: &impl Print, c: Holdings, level: u8, version: u8) -> io::Result<Holdings> {
-    let o = collector::release(c, level, version);
-    say::one(rt, b"release", o.answer as u64)?;
+    let (answer, next) = match collector::release(c, level, version) {
+        Ok(next) => (0, next),
+        Err(refusal) => (refusal.number(), c),
+    };
+    say::one(rt, b"release", answer.into())?;
     say::text(rt, b"\n")?;
-    Ok(o.collector)
+    Ok(next)
 }
 
 fn copied(

@@ -75,12 +75,12 @@ module _ (b : Board) (f out : List ℕ) (o : Outcome) (e : o ≡ offered_at b.co
     pub whole_output : taken_output b.stories p out ≡ taken_output b.stories (packet_of b f) out
     whole_output = ap (λ (q : List ℕ). taken_output b.stories q out) (ep ∙ packet_is)
 
-    pub whole_heard_lem : (r : Shown) (d : Outcome) (level : ℕ) → r ≡ taken_in b.stories p (length out) → d ≡ release_gives o.collector h.level h.version → level ≡ cond (eqb r.answer 1) h.level 0
-        → record { answer = r.answer; length = r.length; level = level; parts = r.parts; number = r.number; board = record { collector = d.collector; stories = r.stories } } ≡ whole_heard b f (length out)
+    pub whole_heard_lem : (r : Shown) (d : Holdings) (level : ℕ) → r ≡ taken_in b.stories p (length out) → d ≡ (release_gives o.collector h.level h.version).collector → level ≡ cond (eqb r.answer 1) h.level 0
+        → record { answer = r.answer; length = r.length; level = level; parts = r.parts; number = r.number; board = record { collector = d; stories = r.stories } } ≡ whole_heard b f (length out)
     unfolding whole_heard
     whole_heard_lem r d level er ed el =
         let q = er ∙ ap (λ (x : List ℕ). taken_in b.stories x (length out)) (ep ∙ packet_is) in
-        let z = ed ∙ ap₂ (λ (y : Outcome) (k : Heading). release_gives y.collector k.level k.version) e eh in
+        let z = ed ∙ ap₂ (λ (y : Outcome) (k : Heading). (release_gives y.collector k.level k.version).collector) e eh in
         let w = el ∙ ap₂ (λ (y : Shown) (k : Heading). cond (eqb y.answer 1) k.level 0) q eh in
         rw (w, q, z)
 

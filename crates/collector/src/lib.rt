@@ -6,7 +6,7 @@ ghost use Rattle.std.specs.Prelude.{◌≡◌, true, ◌&&◌, ◌<◌, length, 
 ghost use Rattle.laws.specs.Scan.{all};
 ghost use Rattle.collector.specs.Places.{Small, pairs_apart, copy_told};
 ghost use Rattle.collector.specs.Collector.{good, index_of_pair, index_of_free, put, piece_with, kept, begun, taken_in};
-ghost use Rattle.collector.specs.Layout.{top_clear, tops_clear, as_place, as_collector, as_offered, no_holdings, offer_gives, release_gives, copy_gives, copy_leaves};
+ghost use Rattle.collector.specs.Layout.{top_clear, tops_clear, as_place, as_collector, as_offered, no_holdings, offer_gives, release_told, release_gives, copy_gives, copy_leaves};
 
 mod places;
 mod whole;
@@ -31,7 +31,7 @@ pub struct Holdings {
     pub places: [Holding; 4],
 }
 
-// What an offer or a release gives back: its answer, and the holdings then.
+// What an offer gives back: its answer, and the holdings then.
 #[derive(Clone, Copy)]
 pub struct Outcome {
     pub answer: u8,
@@ -232,25 +232,19 @@ fn piece_of(heading: Heading, frame: &[u8]) -> Piece
     }
 }
 
-// Makes the pair's place free, bytes and marks as they were: 28, 18, else 0.
-pub fn release(collector: Holdings, level: u8, version: u8) -> Outcome
-    ensures { result ≡ release_gives collector level version }
+// The holdings with the pair's place free, bytes and marks as they were: 28, 18 where it can't be; what was held stands then.
+pub fn release(collector: Holdings, level: u8, version: u8) -> Result<Holdings, Refusal>
+    ensures { release_told collector result ≡ release_gives collector level version }
 {
     if !is_good(collector) {
-        return Outcome {
-            answer: 28,
-            collector,
-        };
+        return Err(Refusal::State);
     }
     match index_of(collector, level, version) {
-        Some(i) => Outcome {
-            answer: 0,
-            collector: put_place(collector, i, places::make_free(collector.places[i])),
-        },
-        None => Outcome {
-            answer: 18,
-            collector,
-        },
+        Some(i) => {
+            let freed = places::make_free(collector.places[i]);
+            Ok(put_place(collector, i, freed))
+        }
+        None => Err(Refusal::Unheld),
     }
 }
 
