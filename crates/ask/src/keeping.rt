@@ -58,10 +58,13 @@ fn offered(rt: &impl Print, c: Holdings, frame: &[u8]) -> io::Result<Holdings> {
 }
 
 fn released(rt: &impl Print, c: Holdings, level: u8, version: u8) -> io::Result<Holdings> {
-    let o = collector::release(c, level, version);
-    say::one(rt, b"release", o.answer as u64)?;
+    let (answer, next) = match collector::release(c, level, version) {
+        Ok(next) => (0, next),
+        Err(refusal) => (refusal.number(), c),
+    };
+    say::one(rt, b"release", answer.into())?;
     say::text(rt, b"\n")?;
-    Ok(o.collector)
+    Ok(next)
 }
 
 fn copied(
@@ -73,9 +76,12 @@ fn copied(
     memory: &mut [u8],
 ) -> io::Result<()> {
     let e = n.min(memory.len());
-    let a = collector::copy(c, level, version, &mut memory[0..e]);
-    say::one(rt, b"copy", a.answer as u64)?;
-    say::memory(rt, memory, a.length)
+    let (answer, length) = match collector::copy(c, level, version, &mut memory[0..e]) {
+        Ok(length) => (0, length),
+        Err(refusal) => (refusal.number(), 0),
+    };
+    say::one(rt, b"copy", answer.into())?;
+    say::memory(rt, memory, length)
 }
 
 fn pending(b: &[u8]) -> Receiver {

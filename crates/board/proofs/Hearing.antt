@@ -16,7 +16,11 @@ use Rattle.frame.specs.declared.Heading.{Heading}
 use Rattle.frame.specs.Heading.{refusals, heading_fields, heading_of}
 use Rattle.frame.proofs.Accepted.{answer_is, fields_are, refused_with}
 use Rattle.collector.specs.declared.Offered.{Offered}
-use Rattle.collector.specs.declared.Copied.{Copied}
+use Rattle.std.specs.Prelude.{Result, Ok, Err}
+use Rattle.std.specs.Result.{result_unwrap_or}
+use Rattle.refusal.specs.declared.Refusal.{Refusal}
+use Rattle.refusal.specs.Refusal.{value_or}
+use Rattle.collector.specs.Places.{Copied, copy_told}
 use Rattle.collector.specs.declared.Holdings.{Holdings}
 use Rattle.collector.specs.declared.Outcome.{Outcome}
 use Rattle.collector.specs.Layout.{tops_clear, as_collector, sound, offer_gives, release_gives, copy_gives, copy_leaves}
@@ -53,10 +57,15 @@ module _ (c : Holdings) (f : List ℕ) where
   pub heading_read : (offer_gives c f).answer ≡ 1 → (heading_of f).answer ≡ 0
   heading_read e = answer_is f ∙ heading_zero e
 
+-- what stands for the value of a refusal, as the code takes it
+pub taken_or : {A : Type 0} (r : Result A Refusal) (beside : A) → result_unwrap_or r beside ≡ value_or beside r
+taken_or (Ok value) beside = refl
+taken_or (Err e) beside = refl
+
 -- ---- a packet that is whole, as the code takes it in
-pub packet_copied : (c : Holdings) (l v : ℕ) (r : Copied) (q p : List ℕ) → r ≡ copy_gives c l v 250 → q ≡ copy_leaves c l v (zeros 250) → p ≡ take r.length q → p ≡ packet_in c l v
+pub packet_copied : (c : Holdings) (l v : ℕ) (r : Result ℕ Refusal) (n : ℕ) (q p : List ℕ) → copy_told r ≡ copy_gives c l v 250 → n ≡ result_unwrap_or r 0 → q ≡ copy_leaves c l v (zeros 250) → p ≡ take n q → p ≡ packet_in c l v
 unfolding packet_in
-packet_copied c l v r q p er eq ep = ep ∙ ap₂ (λ (y : Copied) (x : List ℕ). take y.length x) er eq
+packet_copied c l v r n q p er en eq ep = ep ∙ ap₂ take (en ∙ taken_or r 0 ∙ ap (λ (y : Copied). y.length) er) eq
 
 module _ (b : Board) (f out : List ℕ) (o : Outcome) (e : o ≡ offered_at b.collector f) (h : Heading) (eh : h ≡ heading_fields f) where
   packet_is : packet_in o.collector h.level h.version ≡ packet_of b f
@@ -66,12 +75,12 @@ module _ (b : Board) (f out : List ℕ) (o : Outcome) (e : o ≡ offered_at b.co
     pub whole_output : taken_output b.stories p out ≡ taken_output b.stories (packet_of b f) out
     whole_output = ap (λ (q : List ℕ). taken_output b.stories q out) (ep ∙ packet_is)
 
-    pub whole_heard_lem : (r : Shown) (d : Outcome) (level : ℕ) → r ≡ taken_in b.stories p (length out) → d ≡ release_gives o.collector h.level h.version → level ≡ cond (eqb r.answer 1) h.level 0
-        → record { answer = r.answer; length = r.length; level = level; parts = r.parts; number = r.number; board = record { collector = d.collector; stories = r.stories } } ≡ whole_heard b f (length out)
+    pub whole_heard_lem : (r : Shown) (d : Holdings) (level : ℕ) → r ≡ taken_in b.stories p (length out) → d ≡ (release_gives o.collector h.level h.version).collector → level ≡ cond (eqb r.answer 1) h.level 0
+        → record { answer = r.answer; length = r.length; level = level; parts = r.parts; number = r.number; board = record { collector = d; stories = r.stories } } ≡ whole_heard b f (length out)
     unfolding whole_heard
     whole_heard_lem r d level er ed el =
         let q = er ∙ ap (λ (x : List ℕ). taken_in b.stories x (length out)) (ep ∙ packet_is) in
-        let z = ed ∙ ap₂ (λ (y : Outcome) (k : Heading). release_gives y.collector k.level k.version) e eh in
+        let z = ed ∙ ap₂ (λ (y : Outcome) (k : Heading). (release_gives y.collector k.level k.version).collector) e eh in
         let w = el ∙ ap₂ (λ (y : Shown) (k : Heading). cond (eqb y.answer 1) k.level 0) q eh in
         rw (w, q, z)
 

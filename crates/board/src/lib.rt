@@ -67,8 +67,8 @@ fn take_whole(board: Board, frame: &[u8], offered: Outcome, out: &mut [u8]) -> H
     let h = frame::heading_of(frame).unwrap();
     let c = offered.collector;
     let mut packet = [0u8; 250];
-    let n = collector::copy(c, h.level, h.version, &mut packet).length;
-    let d = collector::release(c, h.level, h.version).collector;
+    let n = collector::copy(c, h.level, h.version, &mut packet).unwrap_or(0);
+    let d = collector::release(c, h.level, h.version).unwrap_or(c);
     let s = board.stories;
     let shown = stories::take_in(s, octets::part(&packet, 0, n), out);
     let number = shown.number;

@@ -16,9 +16,8 @@ use Rattle.frame.specs.Heading.{refusals}
 use Rattle.frame.proofs.Accepted.{none_refused, some_refused, refused_with}
 use Rattle.collector.specs.declared.Place.{Place}
 use Rattle.collector.specs.declared.Collector.{Collector}
-use Rattle.collector.specs.Places.{freed, copy_cases, copy_answer, copy_bytes}
+use Rattle.collector.specs.Places.{freed, copy_cases, copy_answer, copy_bytes, Copied}
 use Rattle.collector.specs.Collector.{good, index_of_pair, place_of, put, piece_of, spot, after, take_cases, keeps, taken_in, offer_cases, offered, release_cases, released, copied_cases, answered, copied}
-use Rattle.collector.specs.declared.Copied.{Copied}
 
 -- ---- offer
 module _ (c : Collector) (f : List ℕ) where

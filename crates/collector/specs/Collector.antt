@@ -8,8 +8,7 @@ use Rattle.collector.specs.declared.Place.{Place}
 use Rattle.collector.specs.declared.Collector.{Collector}
 use Rattle.collector.specs.declared.Piece.{Piece}
 use Rattle.collector.specs.declared.Offered.{Offered}
-use Rattle.collector.specs.declared.Copied.{Copied}
-use Rattle.collector.specs.Places.{free, blank, is_pair, pairs_apart, fair, contradicts, again, taken_for, stored, freed, whole, spoiled, state, copy_cases, copy_answer, copy_bytes}
+use Rattle.collector.specs.Places.{free, blank, is_pair, pairs_apart, fair, contradicts, again, taken_for, stored, freed, whole, spoiled, state, copy_cases, copy_answer, copy_bytes, Copied}
 
 -- nothing is held (01, Collector)
 abbrev pub nothing : Collector

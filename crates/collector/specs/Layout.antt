@@ -1,17 +1,18 @@
 -- One number for the marks of a place (02, K11): bit k for frame k, the top bit always 0. The records that the calls take and give hold
 -- it; each is seen as a record with 63 marks, and what a call gives is what the definitions say of that one.
-use Rattle.std.specs.Prelude.{Bool, false, cond, not, ◌&&◌, List, [], ◌∷◌, ◌++◌, map, ℕ, zero, suc, ◌+◌, ◌*◌, ◌/◌, ◌%◌, ◌^◌, ltb, eqb}
+use Rattle.std.specs.Prelude.{Result, Bool, false, cond, not, ◌&&◌, List, [], ◌∷◌, ◌++◌, map, ℕ, zero, suc, ◌+◌, ◌*◌, ◌/◌, ◌%◌, ◌^◌, ltb, eqb}
 use Rattle.laws.specs.Scan.{all}
 use Rattle.laws.specs.Refusals.{Case}
+use Rattle.refusal.specs.declared.Refusal.{Refusal}
+use Rattle.refusal.specs.Refusal.{answer_of, value_or}
 use Rattle.frame.specs.Heading.{refusals}
 use Rattle.collector.specs.declared.Place.{Place}
 use Rattle.collector.specs.declared.Collector.{Collector}
 use Rattle.collector.specs.declared.Offered.{Offered}
-use Rattle.collector.specs.declared.Copied.{Copied}
 use Rattle.collector.specs.declared.Holding.{Holding}
 use Rattle.collector.specs.declared.Holdings.{Holdings}
 use Rattle.collector.specs.declared.Outcome.{Outcome}
-use Rattle.collector.specs.Places.{copy_cases}
+use Rattle.collector.specs.Places.{copy_cases, Copied}
 use Rattle.collector.specs.Collector.{nothing, good, place_of, piece_of, take_cases, offered, released, answered, copied}
 
 -- ---- a number and its marks
@@ -52,6 +53,10 @@ as_collector h = record { places = map as_place h.places }
 -- what a call gives back
 abbrev pub as_offered : Outcome → Offered
 as_offered r = record { answer = r.answer; collector = as_collector r.collector }
+
+-- what the result of a release tells: beside a refusal what was held stands (01, Numbers given back)
+abbrev pub release_told : Holdings → Result Holdings Refusal → Outcome
+release_told h r = record { answer = answer_of r; collector = value_or h r }
 
 -- a place, back
 abbrev pub from_place : Place → Holding

@@ -1,11 +1,12 @@
 -- One place (paper 01, "Collector"), over the declared records. An array is the list of its elements.
-use Rattle.std.specs.Prelude.{Bool, true, false, cond, not, ◌&&◌, ◌||◌, List, [], ◌∷◌, ◌++◌, ℕ, ◌+◌, ◌*◌, ◌<◌, length, get_or, set, take, drop, replicate, leb, ltb, eqb}
+use Rattle.std.specs.Prelude.{Result, Bool, true, false, cond, not, ◌&&◌, ◌||◌, List, [], ◌∷◌, ◌++◌, ℕ, ◌+◌, ◌*◌, ◌<◌, length, get_or, set, take, drop, replicate, leb, ltb, eqb}
 use Rattle.laws.specs.Below.{below}
 use Rattle.laws.specs.Refusals.{Case, first}
 use Rattle.frame.specs.declared.Number.{Number}
 use Rattle.collector.specs.declared.Place.{Place}
 use Rattle.collector.specs.declared.Piece.{Piece}
-use Rattle.collector.specs.declared.Copied.{Copied}
+use Rattle.refusal.specs.declared.Refusal.{Refusal}
+use Rattle.refusal.specs.Refusal.{answer_of, value_or}
 use Rattle.size.specs.Size.{packet_size}
 use Rattle.collector.specs.Whole.{passes}
 
@@ -166,6 +167,15 @@ against p x = first ((contradicts p x && whole p, 15) ∷ (again p x, 2) ∷ (co
 -- 18 where no whole packet is held, 10 where it does not fit (01, Numbers given back)
 unfoldable pub copy_cases : Place → ℕ → List Case
 copy_cases p n = (not (p.held && whole p), 18) ∷ (ltb n (packet_size (joined p)), 10) ∷ []
+
+-- a number given back and a count of bytes
+pub record Copied : Type 0 where
+  pub answer : ℕ
+  pub length : ℕ
+
+-- the two that a result tells: beside a refusal the count is 0 (01, Numbers given back)
+abbrev pub copy_told : Result ℕ Refusal → Copied
+copy_told r = record { answer = answer_of r; length = value_or 0 r }
 
 -- the number, and P beside 0
 unfoldable pub copy_answer : ℕ → Place → Copied

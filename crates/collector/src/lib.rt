@@ -4,14 +4,15 @@
 
 ghost use Rattle.std.specs.Prelude.{◌≡◌, true, ◌&&◌, ◌<◌, length, MatchOption};
 ghost use Rattle.laws.specs.Scan.{all};
-ghost use Rattle.collector.specs.Places.{Small, pairs_apart};
+ghost use Rattle.collector.specs.Places.{Small, pairs_apart, copy_told};
 ghost use Rattle.collector.specs.Collector.{good, index_of_pair, index_of_free, put, piece_with, kept, begun, taken_in};
-ghost use Rattle.collector.specs.Layout.{top_clear, tops_clear, as_place, as_collector, as_offered, no_holdings, offer_gives, release_gives, copy_gives, copy_leaves};
+ghost use Rattle.collector.specs.Layout.{top_clear, tops_clear, as_place, as_collector, as_offered, no_holdings, offer_gives, release_told, release_gives, copy_gives, copy_leaves};
 
 mod places;
 mod whole;
 
 pub use frame::{Heading, Number, Total};
+use refusal::Refusal;
 
 // Room for one packet: the pair and total that it is held for, bit k for each number k held (the top bit is 0), and the bytes.
 #[derive(Clone, Copy)]
@@ -30,7 +31,7 @@ pub struct Holdings {
     pub places: [Holding; 4],
 }
 
-// What an offer or a release gives back: its answer, and the holdings then.
+// What an offer gives back: its answer, and the holdings then.
 #[derive(Clone, Copy)]
 pub struct Outcome {
     pub answer: u8,
@@ -69,13 +70,6 @@ pub struct Piece {
 pub struct Offered {
     pub answer: u8,
     pub collector: Collector,
-}
-
-// What a copy gives back: its answer, and how many bytes it wrote.
-#[derive(Clone, Copy)]
-pub struct Copied {
-    pub answer: u8,
-    pub length: usize,
 }
 
 // A collector that holds nothing.
@@ -238,44 +232,32 @@ fn piece_of(heading: Heading, frame: &[u8]) -> Piece
     }
 }
 
-// Makes the pair's place free, bytes and marks as they were: 28, 18, else 0.
-pub fn release(collector: Holdings, level: u8, version: u8) -> Outcome
-    ensures { result ≡ release_gives collector level version }
+// The holdings with the pair's place free, bytes and marks as they were: 28, 18 where it can't be; what was held stands then.
+pub fn release(collector: Holdings, level: u8, version: u8) -> Result<Holdings, Refusal>
+    ensures { release_told collector result ≡ release_gives collector level version }
 {
     if !is_good(collector) {
-        return Outcome {
-            answer: 28,
-            collector,
-        };
+        return Err(Refusal::State);
     }
     match index_of(collector, level, version) {
-        Some(i) => Outcome {
-            answer: 0,
-            collector: put_place(collector, i, places::make_free(collector.places[i])),
-        },
-        None => Outcome {
-            answer: 18,
-            collector,
-        },
+        Some(i) => {
+            let freed = places::make_free(collector.places[i]);
+            Ok(put_place(collector, i, freed))
+        }
+        None => Err(Refusal::Unheld),
     }
 }
 
-// Copies the pair's packet to the start of `out`: 28, 18, 10, else 0 and the packet's size.
-pub fn copy(collector: Holdings, level: u8, version: u8, out: &mut [u8]) -> Copied
-    ensures value { result ≡ copy_gives collector level version (length out.old) }
+// Copies the pair's packet to the start of `out`, and gives the packet's size: 28, 18, 10 where it can't.
+pub fn copy(collector: Holdings, level: u8, version: u8, out: &mut [u8]) -> Result<usize, Refusal>
+    ensures value { copy_told result ≡ copy_gives collector level version (length out.old) }
     ensures bytes { out.new ≡ copy_leaves collector level version out.old }
 {
     if !is_good(collector) {
-        return Copied {
-            answer: 28,
-            length: 0,
-        };
+        return Err(Refusal::State);
     }
     match index_of(collector, level, version) {
         Some(i) => places::copy_out(collector.places[i], out),
-        None => Copied {
-            answer: 18,
-            length: 0,
-        },
+        None => Err(Refusal::Unheld),
     }
 }

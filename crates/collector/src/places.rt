@@ -2,10 +2,10 @@
 ghost use Rattle.std.specs.Prelude.{◌≡◌, true, false, cond, ◌++◌, ◌+◌, ◌*◌, ◌<◌, ◌≤◌, ◌^◌, length, get_or, take, drop};
 ghost use Rattle.laws.specs.Refusals.{first};
 ghost use Rattle.collector.specs.Whole.{passes};
-ghost use Rattle.collector.specs.Places.{Small, free, is_pair, same_pair, with_mark, marks_below, complete, fair, same_four, against, stored, cleared, taken_for, freed, joined, whole, state, copy_cases, copy_answer, copy_bytes};
+ghost use Rattle.collector.specs.Places.{Small, free, is_pair, same_pair, with_mark, marks_below, complete, fair, same_four, against, stored, cleared, taken_for, freed, joined, whole, state, copy_cases, copy_told, copy_answer, copy_bytes};
 ghost use Rattle.collector.specs.Layout.{marks_of, top_clear, as_place, from_place};
 
-use crate::{Copied, Heading, Holding, Number, Piece, Total, whole};
+use crate::{Heading, Holding, Number, Piece, Refusal, Total, whole};
 
 // A place that was never taken.
 pub(crate) fn never_taken() -> Holding
@@ -202,28 +202,19 @@ fn write_out(p: Holding, n: usize, out: &mut [u8])
     out[..n].copy_from_slice(&p.bytes[..n]);
 }
 
-// Copies the packet of a held place to the start of `out`: 18 where it isn't whole, 10 where `out` is too short, else 0.
-pub(crate) fn copy_out(p: Holding, out: &mut [u8]) -> Copied
+// Copies the packet of a held place to the start of `out`: 18 where it isn't whole, 10 where `out` is too short.
+pub(crate) fn copy_out(p: Holding, out: &mut [u8]) -> Result<usize, Refusal>
     requires { (p.held ≡ true) × (p.total.0 ≤ 63) }
-    ensures value { result ≡ copy_answer (first (copy_cases (as_place p) (length out.old))) (as_place p) }
+    ensures value { copy_told result ≡ copy_answer (first (copy_cases (as_place p) (length out.old))) (as_place p) }
     ensures bytes { out.new ≡ copy_bytes (first (copy_cases (as_place p) (length out.old))) (as_place p) out.old }
 {
     if state_of(p) != 1 {
-        return Copied {
-            answer: 18,
-            length: 0,
-        };
+        return Err(Refusal::Unheld);
     }
     let n = size::packet_size(&p.bytes);
     if out.len() < n {
-        return Copied {
-            answer: 10,
-            length: 0,
-        };
+        return Err(Refusal::Room);
     }
     write_out(p, n, out);
-    Copied {
-        answer: 0,
-        length: n,
-    }
+    Ok(n)
 }

@@ -52,7 +52,8 @@ impl Keeping<'_> {
     // The packet of a frame's pair is whole: it is kept, and the pair released.
     fn take_whole(&mut self, rt: &impl Print, pair: Heading) -> io::Result<()> {
         let mut packet = [0u8; 250];
-        let n = collector::copy(self.collector, pair.level, pair.version, &mut packet).length;
+        let copied = collector::copy(self.collector, pair.level, pair.version, &mut packet);
+        let n = copied.unwrap_or(0);
         let mut record = [0u8; 256];
         // What is made of a packet that is refused would be refused in its turn, with 35.
         let _ = shelf::make(
@@ -62,14 +63,20 @@ impl Keeping<'_> {
             &mut record,
         );
         self.keep(rt, &record)?;
-        self.collector = collector::release(self.collector, pair.level, pair.version).collector;
+        self.release(pair.level, pair.version);
         Ok(())
+    }
+
+    // Makes the pair's place free, if it is held.
+    fn release(&mut self, level: u8, version: u8) {
+        let collector = self.collector;
+        self.collector = collector::release(collector, level, version).unwrap_or(collector);
     }
 
     // Makes the place free whose turn it is.
     fn make_room(&mut self) {
         let held = self.collector.places[self.turn % 4];
-        self.collector = collector::release(self.collector, held.level, held.version).collector;
+        self.release(held.level, held.version);
         self.turn = (self.turn % 4 + 1) % 4;
     }
 

@@ -16,10 +16,9 @@ use Rattle.frame.specs.declared.Total.{Total}
 use Rattle.frame.specs.declared.Number.{Number}
 use Rattle.collector.specs.declared.Place.{Place}
 use Rattle.collector.specs.declared.Collector.{Collector}
-use Rattle.collector.specs.declared.Copied.{Copied}
 use Rattle.size.specs.Size.{packet_size}
 use Rattle.collector.specs.Whole.{passes}
-use Rattle.collector.specs.Places.{blank, is_pair, shaped, complete, joined, whole, copy_cases, copy_answer, copy_bytes}
+use Rattle.collector.specs.Places.{blank, is_pair, shaped, complete, joined, whole, copy_cases, copy_answer, copy_bytes, Copied}
 use Rattle.collector.specs.Collector.{index_of_pair, place_of, answered, copied}
 use Rattle.collector.proofs.Calls.{copy_none, copy_held}
 use Rattle.collector.proofs.AllPlaces.{good_at, total_small, is_not_held}

@@ -6,7 +6,7 @@ use Prim.Native.Nat.{ℕ}
 use lib.ListN.{length}
 use Rattle.collector.specs.declared.Collector.{Collector}
 use Rattle.collector.specs.declared.Offered.{Offered}
-use Rattle.collector.specs.declared.Copied.{Copied}
+use Rattle.collector.specs.Places.{Copied}
 use Rattle.collector.specs.declared.Outcome.{Outcome}
 use Rattle.collector.specs.declared.Holdings.{Holdings}
 use Rattle.collector.specs.Collector.{nothing, keeps, offered, released, answered, copied}

@@ -24,7 +24,7 @@ pub put_place-requires : goal.put_place-requires
 put_place-requires c = let h = c.args.collector in
     let n : length h.places ≡ 4 = search (rules, length_mapped) in
     let g = and_both (tops_clear h) _ (sym c.is_good.ensures ∙ c.if-not-is_good.false) in
-    (ap (λ (m : ℕ). ltb m (2 ^ 63)) c.make_free.ensures.top ∙ all_at top_clear h.places c.in-Some.i _ g.0 (omega (arith, n, c.in-Some.ensures.1)), g.0)
+    (ap (λ (m : ℕ). ltb m (2 ^ 63)) c.make_free-freed.ensures.top ∙ all_at top_clear h.places c.in-Some.i _ g.0 (omega (arith, n, c.in-Some.ensures.1)), g.0)
 
 pub returns-in-Some : goal.returns-in-Some
 returns-in-Some c = let h = c.args.collector in
@@ -36,7 +36,7 @@ returns-in-Some c = let h = c.args.collector in
     let at = seen_at h.places i _ (omega (arith, n, c.in-Some.ensures.1)) in
     let g = and_both (tops_clear h) _ (sym c.is_good.ensures ∙ c.if-not-is_good.false) in
     release_seen h g.0 _ _ _ c.put_place.ensures.top
-    (ap (λ (r : Collector). record { answer = 0; collector = r }) (c.put_place.ensures.result_value ∙ ap (λ (q : Place). put d i q) (c.make_free.ensures.result_value ∙ ap freed (sym at)))
+    (ap (λ (r : Collector). record { answer = 0; collector = r }) (c.put_place.ensures.result_value ∙ ap (λ (q : Place). put d i q) (c.make_free-freed.ensures.result_value ∙ ap freed (sym at)))
     ∙ ap (λ (k : ℕ). record { answer = 0; collector = put d k (freed (get_or d.places k blank)) }) e
     ∙ release_0 d _ _ g.1 (is_held_lem d.places _ _ (omega (arith, e, c.in-Some.ensures.1))))
 
