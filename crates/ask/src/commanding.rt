@@ -7,7 +7,7 @@
 ghost use Rattle.std.specs.Prelude.{◌≤◌};
 
 use crate::{input, reading, say, writing};
-use packet::Written;
+use refusal::Refusal;
 use sister::{Command, Opened};
 use std::io;
 
@@ -59,14 +59,12 @@ fn all_digits(rt: &impl Print, b: &[u8]) -> io::Result<()> {
 }
 
 // What was written at the start of the memory lent, and whether the rest is as it was.
-fn memory(rt: &impl Print, w: Written, lent: &[u8]) -> io::Result<()> {
-    say::one(rt, b"encode", w.answer as u64)?;
-    say::hex(rt, octets::part(lent, 0, w.length.min(1600)))?;
-    say::hex(
-        rt,
-        octets::part(octets::part(lent, 0, w.length), 1600, 1600),
-    )?;
-    if say::all(octets::part(lent, w.length, 3200), 0xEE) {
+fn memory(rt: &impl Print, outcome: Result<usize, Refusal>, lent: &[u8]) -> io::Result<()> {
+    let (answer, written) = say::told(outcome);
+    say::one(rt, b"encode", answer.into())?;
+    say::hex(rt, octets::part(lent, 0, written.min(1600)))?;
+    say::hex(rt, octets::part(octets::part(lent, 0, written), 1600, 1600))?;
+    if say::all(octets::part(lent, written, 3200), 0xEE) {
         say::text(rt, b"\nthe rest as it was\n")
     } else {
         say::text(rt, b"\nthe rest CHANGED\n")
@@ -149,8 +147,8 @@ fn written(
     lent: &mut [u8],
 ) -> io::Result<()> {
     let e = n.min(lent.len());
-    let w = sister::write(c, address, codes, &mut lent[0..e]);
-    memory(rt, w, lent)
+    let outcome = sister::write(c, address, codes, &mut lent[0..e]);
+    memory(rt, outcome, lent)
 }
 
 fn encoded(rt: &impl Print, c: Command, address: &[u8], codes: &[u8], n: usize) -> io::Result<()> {

@@ -99,8 +99,7 @@ fn lists(rt: &impl Print, codes: &[u8], n: usize, entries: &[u8], k: usize) -> i
 fn written(rt: &impl Print, f: Fields, codes: &[u8], body: &[u8]) -> io::Result<()> {
     let mut out = [0xEEu8; 250];
     let w = writer::write(f, codes, body, &mut out);
-    say::one(rt, b"write", w.answer as u64)?;
-    say::memory(rt, &out, w.length)
+    say::counted(rt, b"write", w, &out)
 }
 
 fn text_and_body(rt: &impl Print, packet: &[u8]) -> io::Result<()> {

@@ -1,4 +1,5 @@
 // Lines of text.
+use refusal::Refusal;
 use std::io;
 
 pub(crate) fn text(rt: &impl Print, b: &[u8]) -> io::Result<()> {
@@ -74,4 +75,24 @@ pub(crate) fn memory(rt: &impl Print, lent: &[u8], written: usize) -> io::Result
     } else {
         text(rt, b"\nthe rest CHANGED\n")
     }
+}
+
+// The number that a result tells and its count, 0 beside a refusal.
+pub(crate) fn told(outcome: Result<usize, Refusal>) -> (u8, usize) {
+    match outcome {
+        Ok(count) => (0, count),
+        Err(refusal) => (refusal.number(), 0),
+    }
+}
+
+// A name and the number that a result tells; then lent memory, in which so many bytes were written.
+pub(crate) fn counted(
+    rt: &impl Print,
+    name: &[u8],
+    outcome: Result<usize, Refusal>,
+    lent: &[u8],
+) -> io::Result<()> {
+    let (answer, written) = told(outcome);
+    one(rt, name, answer.into())?;
+    memory(rt, lent, written)
 }

@@ -22,10 +22,7 @@ fn sent(
     memory: &mut [u8],
 ) -> io::Result<()> {
     let e = n.min(memory.len());
-    let (answer, frames) = match air::on_air(packet, level, version, &mut memory[..e]) {
-        Ok(frames) => (0, frames),
-        Err(refusal) => (refusal.number(), 0),
-    };
+    let (answer, frames) = say::told(air::on_air(packet, level, version, &mut memory[..e]));
     say::one(rt, b"air", answer.into())?;
     say::number(rt, frames as u64)?;
     say::memory(rt, memory, bytes_of(frames))

@@ -55,8 +55,7 @@ pub(crate) fn tell(rt: &impl Print, b: &[u8]) -> io::Result<()> {
 fn joined(rt: &impl Print, packets: &[u8], n: usize, memory: &mut [u8]) -> io::Result<()> {
     let e = n.min(memory.len());
     let j = join::join(packets, &mut memory[0..e]);
-    say::one(rt, b"join", j.answer as u64)?;
-    say::memory(rt, memory, j.length)
+    say::counted(rt, b"join", j, memory)
 }
 
 // A whole record.

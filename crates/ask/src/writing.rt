@@ -73,8 +73,7 @@ fn written(
 ) -> io::Result<()> {
     let e = n.min(memory.len());
     let w = writer::write(f, codes, body, &mut memory[0..e]);
-    say::one(rt, b"write", w.answer as u64)?;
-    say::memory(rt, memory, w.length)
+    say::counted(rt, b"write", w, memory)
 }
 
 // A whole record.

@@ -3,7 +3,7 @@ use Rattle.std.specs.Prelude.{List, ℕ}
 use Rattle.packet.specs.declared.Content.{Content}
 use Rattle.packet.specs.declared.Fields.{Fields}
 use Rattle.packet.specs.declared.Opened.{Opened}
-use Rattle.packet.specs.declared.Written.{Written}
+use Rattle.packet.specs.Writing.{Written}
 use Rattle.packet.specs.Table.{kind_of, type_of}
 use Rattle.packet.specs.Content.{parts_of, kind_for, numbers_of}
 use Rattle.packet.specs.Reading.{padded}

@@ -123,9 +123,11 @@ pub fn codec_write(
     ensures output { out.new ≡ packet_output (fields_from fields digits.now) codes.now body.now out.old }
 {
     let f = fields_from(fields, *digits);
-    let w = writer::write(f, codes, body, out);
-    PlainWritten {
-        answer: w.answer,
-        length: w.length,
+    match writer::write(f, codes, body, out) {
+        Ok(length) => PlainWritten { answer: 0, length },
+        Err(refusal) => PlainWritten {
+            answer: refusal.number(),
+            length: 0,
+        },
     }
 }

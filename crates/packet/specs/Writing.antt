@@ -1,5 +1,5 @@
 -- The bytes of a packet from its fields, and what a writer answers (paper 01, "Numbers given back", Packet writer).
-use Rattle.std.specs.Prelude.{ℕ, zero, suc, ◌+◌, ◌-◌, ◌*◌, List, [], ◌∷◌, ◌++◌, Bool, false, not, ◌&&◌, ◌||◌, length, take, drop, leb, ltb, eqb}
+use Rattle.std.specs.Prelude.{Result, ℕ, zero, suc, ◌+◌, ◌-◌, ◌*◌, List, [], ◌∷◌, ◌++◌, Bool, false, not, ◌&&◌, ◌||◌, length, take, drop, leb, ltb, eqb}
 use Rattle.laws.specs.Bits.{bytes}
 use Rattle.laws.specs.Refusals.{Case, first}
 use Rattle.format.specs.declared.Line.{Line}
@@ -8,7 +8,8 @@ use Rattle.packet.specs.declared.Counting.{Counting}
 use Rattle.packet.specs.declared.Counting.TheVariants as counting
 use Rattle.packet.specs.declared.Content.{Content}
 use Rattle.packet.specs.declared.Fields.{Fields}
-use Rattle.packet.specs.declared.Written.{Written}
+use Rattle.refusal.specs.declared.Refusal.{Refusal}
+use Rattle.refusal.specs.Refusal.{answer_of, value_or}
 use Rattle.packet.specs.Table.{kind_of, only_read, type_of, content_bytes, Row, row_of, packet}
 use Rattle.packet.specs.Content.{kind_for, numbers_of, count_for, no_such_day}
 use Rattle.packet.specs.Reading.{is_unknown}
@@ -121,6 +122,15 @@ unfoldable pub written_answer : Fields → List ℕ → List ℕ → ℕ → ℕ
 written_answer f codes body room = first (write_cases f codes body room)
 
 -- ---- what is written: P bytes, or nothing (01, Numbers given back)
+-- a number given back and how many bytes were written
+pub record Written : Type 0 where
+  pub answer : ℕ
+  pub length : ℕ
+
+-- the two that a result tells: beside a refusal the length is 0
+abbrev pub told : Result ℕ Refusal → Written
+told r = record { answer = answer_of r; length = value_or 0 r }
+
 abbrev pub written_by : ℕ → ℕ → Written
 written_by zero p = record { answer = 0; length = p }
 written_by (suc a) p = record { answer = suc a; length = 0 }

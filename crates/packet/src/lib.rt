@@ -131,13 +131,6 @@ pub struct Opened {
     pub entries: [u8; 272],
 }
 
-// The answer of a writer, and how many bytes it wrote.
-#[derive(Clone, Copy)]
-pub struct Written {
-    pub answer: u8,
-    pub length: usize,
-}
-
 // The kind of a type (000, table 2).
 #[tactic(auto, unfolding(crate::specs::Table::kind_of))]
 pub fn kind_of(t: u8) -> Kind

@@ -10,10 +10,9 @@ use lib.ListN.{length}
 use Rattle.laws.specs.Refusals.{none}
 use Rattle.laws.proofs.Refusals.{stop, pass}
 use Rattle.packet.specs.declared.Fields.{Fields}
-use Rattle.packet.specs.declared.Written.{Written}
+use Rattle.packet.specs.Writing.{Written, write_cases, written_answer, written, packet_output, size_for, bytes_for}
 use Rattle.packet.specs.Table.{refused_type, unwritten_type}
 use Rattle.packet.specs.Reading.{type_in, size_bad, read_cases, read_answer, text_cases, text_answer, opened, refused_as, body_of, text_of}
-use Rattle.packet.specs.Writing.{write_cases, written_answer, written, packet_output, size_for, bytes_for}
 use Rattle.packet.proofs.ByType.{refused_types, unwritten_types}
 use Rattle.packet.proofs.Refused.{not_opened, no_part, not_written_lem}
 use Rattle.trips.proofs.Answers.{then_apart, write_apart, read_answer_lem, write_answer, read_exact, write_exact}

@@ -4,8 +4,7 @@ use Rattle.laws.specs.Bits.{bytes}
 use Rattle.laws.specs.Refusals.{Case, first}
 use Rattle.format.specs.declared.Line.{Line}
 use Rattle.format.specs.Format.{encode, fill, fine}
-use Rattle.packet.specs.declared.Written.{Written}
-use Rattle.packet.specs.Writing.{written_by, output_by}
+use Rattle.packet.specs.Writing.{Written, written_by, output_by}
 use Rattle.sister.specs.declared.Command.{Command}
 use Rattle.sister.specs.Table.{is_unknown_kind, content_bytes, command_lines, address_count, code_count, parts_of, kind_for, count_for, no_day}
 

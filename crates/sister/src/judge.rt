@@ -3,6 +3,7 @@ ghost use Rattle.std.specs.Prelude.{◌≡◌, false, ◌<◌, ◌≤◌, drop};
 ghost use Rattle.laws.specs.Bits.{bits};
 ghost use Rattle.laws.specs.Refusals.{first};
 ghost use Rattle.format.specs.Format.{times, decode, fine, inside};
+ghost use Rattle.refusal.specs.Refusal.{answer_of};
 ghost use Rattle.packet.specs.Table.{code};
 ghost use Rattle.sister.specs.Reading.{length_bad, read_cases, read_answer};
 ghost use Rattle.sister.specs.Writing.{count_bad, write_cases, written_answer};
@@ -10,6 +11,7 @@ ghost use Rattle.sister.specs.Layout.{fields_fine};
 
 use crate::{Command, Kind, parts, puts};
 use packet::Content;
+use refusal::Refusal;
 
 // ---- reading
 
@@ -132,31 +134,31 @@ fn count_bad(c: Command, address: &[u8], codes: &[u8]) -> bool
 }
 
 // What a command whose counts are right is due: 25, 27 or 10.
-fn rest_answer(c: Command, address: &[u8], codes: &[u8], room: usize) -> u8
+fn rest_answer(c: Command, address: &[u8], codes: &[u8], room: usize) -> Result<(), Refusal>
     requires { count_bad c address.now codes.now ≡ false }
-    ensures { result ≡ first (drop 2 (write_cases c address.now codes.now room)) }
+    ensures { answer_of result ≡ first (drop 2 (write_cases c address.now codes.now room)) }
 {
     if !digits_fine(codes) {
-        return 25;
+        return Err(Refusal::Digit);
     }
     if !fields_fine(c) {
-        return 27;
+        return Err(Refusal::Range);
     }
     if room < 3 + puts::laid_for(c).bytes {
-        return 10;
+        return Err(Refusal::Room);
     }
-    0
+    Ok(())
 }
 
 // The writer's answer.
-pub(crate) fn written_answer(c: Command, address: &[u8], codes: &[u8], room: usize) -> u8
-    ensures { result ≡ written_answer c address.now codes.now room }
+pub(crate) fn written_answer(c: Command, address: &[u8], codes: &[u8], room: usize) -> Result<(), Refusal>
+    ensures { answer_of result ≡ written_answer c address.now codes.now room }
 {
     if parts::tag_of(puts::kind_for(c)) == 0 {
-        return 39;
+        return Err(Refusal::Tag);
     }
     if count_bad(c, address, codes) {
-        return 26;
+        return Err(Refusal::Length);
     }
     rest_answer(c, address, codes, room)
 }

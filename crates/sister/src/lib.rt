@@ -6,10 +6,11 @@ mod parts;
 mod puts;
 
 ghost use Rattle.std.specs.Prelude.{◌≡◌, length};
+ghost use Rattle.packet.specs.Writing.{told};
 ghost use Rattle.sister.specs.Reading.{opened, address_of};
 ghost use Rattle.sister.specs.Writing.{written, command_output};
 
-use packet::Written;
+use refusal::Refusal;
 
 // What a tag names.
 #[derive(Clone, Copy)]
@@ -85,17 +86,15 @@ pub fn address(command: &[u8]) -> &[u8]
 
 // Writes a command at the output's start and answers its length: 23 digits a code in `codes`. 39, 26, 25, 27 or 10 where it is
 // refused, and then nothing is written.
-pub fn write(command: Command, address: &[u8], codes: &[u8], out: &mut [u8]) -> Written
-    ensures answer { result ≡ written command address.now codes.now (length out.old) }
+pub fn write(
+    command: Command,
+    address: &[u8],
+    codes: &[u8],
+    out: &mut [u8],
+) -> Result<usize, Refusal>
+    ensures answer { told result ≡ written command address.now codes.now (length out.old) }
     ensures output { out.new ≡ command_output command address.now codes.now out.old }
 {
-    let a = judge::written_answer(command, address, codes, out.len());
-    if a != 0 {
-        return Written {
-            answer: a,
-            length: 0,
-        };
-    }
-    let length = puts::put_command(command, address, codes, out);
-    Written { answer: 0, length }
+    judge::written_answer(command, address, codes, out.len())?;
+    Ok(puts::put_command(command, address, codes, out))
 }

@@ -1,5 +1,5 @@
 -- Packets lent in any order as one text, and what joining them answers (paper 02, K1).
-use Rattle.std.specs.Prelude.{ℕ, zero, suc, ◌+◌, List, [], ◌∷◌, ◌++◌, Bool, true, cond, not, ◌&&◌, length, take, drop, get_or, leb, ltb, eqb}
+use Rattle.std.specs.Prelude.{Result, ℕ, zero, suc, ◌+◌, List, [], ◌∷◌, ◌++◌, Bool, true, cond, not, ◌&&◌, length, take, drop, get_or, leb, ltb, eqb}
 use Rattle.laws.specs.Refusals.{Case, first}
 use Rattle.laws.specs.Scan.{all}
 use Rattle.laws.specs.Lists.{same}
@@ -7,7 +7,8 @@ use Rattle.size.specs.Size.{packet_size}
 use Rattle.packet.specs.Content.{numbers_of}
 use Rattle.packet.specs.Reading.{opened, body_of, text_answer}
 use Rattle.packet.specs.Writing.{output_by}
-use Rattle.story.specs.declared.Joined.{Joined}
+use Rattle.refusal.specs.declared.Refusal.{Refusal}
+use Rattle.refusal.specs.Refusal.{answer_of, value_or}
 use Rattle.story.specs.Telling.{head_of, last_four}
 
 -- ---- the packets that are lent: cut by their length fields, n at most; one that is cut short the reader refuses
@@ -88,6 +89,15 @@ unfoldable pub join_answer : List ℕ → ℕ → ℕ
 join_answer b room = first (join_cases b room)
 
 -- ---- what is given back
+-- a number given back and how many bytes of text
+pub record Joined : Type 0 where
+  pub answer : ℕ
+  pub length : ℕ
+
+-- the two that a result tells: beside a refusal the length is 0
+abbrev pub joined_as : Result ℕ Refusal → Joined
+joined_as r = record { answer = answer_of r; length = value_or 0 r }
+
 abbrev pub joined_by : ℕ → ℕ → Joined
 joined_by zero m = record { answer = 0; length = m }
 joined_by (suc a) m = record { answer = suc a; length = 0 }

@@ -1,4 +1,4 @@
-// A text longer than a packet: what is told, what telling and joining give back. The functions are in `tell` and `join`.
+// A text longer than a packet: what is told, and what telling gives back. The functions are in `tell` and `join`.
 #![tactic(auto)]
 
 ghost use Rattle.std.specs.Prelude.{◌≡◌, ◌++◌, take};
@@ -20,13 +20,6 @@ pub struct Story {
 pub struct Told {
     pub answer: u8,
     pub parts: usize,
-    pub length: usize,
-}
-
-// The answer of joining, and how many bytes of text.
-#[derive(Clone, Copy)]
-pub struct Joined {
-    pub answer: u8,
     pub length: usize,
 }
 

@@ -7,7 +7,7 @@ use lib.ListN.{length, take, drop, length-append, replicate, length-replicate}
 use lib.Seq.{sets, take_at}
 use Rattle.laws.proofs.Writes.{sets_append, from_front}
 use Rattle.packet.specs.declared.Fields.{Fields}
-use Rattle.packet.specs.Writing.{bytes_for, packet_output, output_by}
+use Rattle.packet.specs.Writing.{bytes_for, written_answer, packet_output, output_by}
 use Rattle.story.specs.declared.Story.{Story}
 use Rattle.story.specs.Telling.{head_of, number_after, fields_with, part_fields, part_body, part_packet}
 use Rattle.story.specs.Given.{Lengths}
@@ -29,6 +29,15 @@ body_put z a b n k piece e f h =
     let v = part_body n k piece in
     let l : length v ≡ 4 + length piece = length-append (head_of (k + 1) n) piece in
     ap (take (4 + length piece)) (f ∙ ap (λ (x : List ℕ). sets x 4 piece) e ∙ sym (sets_append (head_of (k + 1) n) piece z 0) ∙ from_front v z (omega arith)) ∙ take_at v (drop (length v) z) (4 + length piece) l
+
+-- the writer takes it
+pub part_sent : (s : Story) (codes : List ℕ) (n k : ℕ) (piece : List ℕ) (room : ℕ) (f : Fields) (d : List ℕ) (t : ℕ) (b : List ℕ) → Lengths s → Sendable s codes n k piece room
+    → f ≡ fields_with s d t → d ≡ number_after s.digits k → t ≡ 4 + length piece → take (4 + length piece) b ≡ part_body n k piece → written_answer f codes (take (t - 0) b) room ≡ 0
+part_sent s codes n k piece room f d t b y h fe de te be =
+    let z : t - 0 ≡ 4 + length piece = omega arith in
+    ap (λ (g : Fields). written_answer g codes (take (t - 0) b) room) (fe ∙ ap₂ (λ (x : List ℕ) (m : ℕ). fields_with s x m) de te)
+    ∙ ap (λ (x : List ℕ). written_answer (part_fields s k piece) codes x room) (ap (λ (m : ℕ). take m b) z ∙ be)
+    ∙ part_written s codes y h.own n k piece h.fits room h.room_left
 
 -- all of it
 pub part_done : (s : Story) (codes : List ℕ) (n k : ℕ) (piece out : List ℕ) (f : Fields) (d : List ℕ) (t : ℕ) (b exit : List ℕ) → Lengths s → Sendable s codes n k piece (length out)

@@ -53,8 +53,10 @@ pub(crate) fn own_answer(story: Story, codes: &[u8]) -> u8
 {
     let f = fields_with(story, story.digits, 4);
     let mut scratch = [0u8; 250];
-    let w = writer::write(f, codes, b"1/1 ", &mut scratch);
-    w.answer
+    match writer::write(f, codes, b"1/1 ", &mut scratch) {
+        Ok(_) => 0,
+        Err(refusal) => refusal.number(),
+    }
 }
 
 // The head of a part.
@@ -88,7 +90,7 @@ fn put_part(story: Story, codes: &[u8], n: usize, k: usize, piece: &[u8], out: &
     let mut body = [0u8; 250];
     put_head(n, k, &mut body);
     put_text(&mut body, piece);
-    writer::write(f, codes, &body[0..t], out);
+    writer::write(f, codes, &body[0..t], out).unwrap();
 }
 
 // The packets of all parts.

@@ -10,8 +10,7 @@ use borrow.Author.Tests.{lt-ltb, le-ltb, not-true, not-false}
 use Rattle.laws.specs.Refusals.{first}
 use Rattle.laws.proofs.Refusals.{stop, pass, none_left}
 use Rattle.packet.specs.declared.Fields.{Fields}
-use Rattle.packet.specs.declared.Written.{Written}
-use Rattle.packet.specs.Writing.{size_for, not_written, count_bad, digit_bad, not_taken, write_cases, written_answer, written_by, written}
+use Rattle.packet.specs.Writing.{Written, size_for, not_written, count_bad, digit_bad, not_taken, write_cases, written_answer, written_by, written}
 use Rattle.writer.specs.Puts.{count_lent}
 use Rattle.writer.specs.Parts.{bytes_of}
 use Rattle.writer.proofs.Size.{size_by}

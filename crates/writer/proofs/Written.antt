@@ -19,11 +19,10 @@ use Rattle.packet.specs.declared.Counting.TheVariants as counting
 use Rattle.packet.specs.declared.Content.{Content}
 use Rattle.packet.specs.Table.{count_by}
 use Rattle.packet.specs.declared.Fields.{Fields}
-use Rattle.packet.specs.declared.Written.{Written}
+use Rattle.packet.specs.Writing.{Written, row_for, size_for, table_for, values_for, bytes_for, lent_bad, other_type, body_lost, digits_lost, count_bad, digit_bad, not_taken, written_answer, written_by, written, packet_output}
 use Rattle.packet.specs.Content.{parts_of, kind_for, count_for, no_such_day}
 use Rattle.packet.proofs.Bytes.{bytes_least}
 use Rattle.packet.proofs.Contents.{content_known}
-use Rattle.packet.specs.Writing.{row_for, size_for, table_for, values_for, bytes_for, lent_bad, other_type, body_lost, digits_lost, count_bad, digit_bad, not_taken, written_answer, written_by, written, packet_output}
 use Rattle.writer.specs.Parts.{Lent, Writable, bytes_of}
 use Rattle.packet.proofs.Lent.{one_each, lent_enough, lent_by}
 use Rattle.writer.proofs.Taken.{good_counts}

@@ -4,12 +4,13 @@ ghost use Rattle.laws.specs.Refusals.{first};
 ghost use Rattle.format.specs.Format.{inside, need};
 ghost use Rattle.packet.specs.Content.{kind_for, no_such_day};
 ghost use Rattle.packet.specs.Reading.{has_entries};
-ghost use Rattle.packet.specs.Writing.{row_for, size_for, lent_bad, body_lost, digits_lost, count_bad, digit_bad, not_taken, write_cases, written_by, written};
+ghost use Rattle.packet.specs.Writing.{row_for, size_for, lent_bad, body_lost, digits_lost, count_bad, digit_bad, not_taken, write_cases, told, written_by, written};
 ghost use Rattle.writer.specs.Parts.{Lent, Counts, bytes_of, something_lost, own_fine, rows_fine};
 ghost use Rattle.writer.specs.Puts.{count_lent};
 
 use crate::{columns, content, fits, puts};
-use packet::{Content, Counting, Fields, Written};
+use packet::{Content, Counting, Fields};
+use refusal::Refusal;
 
 // Each is at most hi: the greatest is.
 fn all_most(xs: &[u8], hi: u8) -> bool
@@ -146,46 +147,36 @@ fn size_of(f: Fields, lent: usize) -> usize
     77 + 12 * f.codes + (z.lead + k * z.each + z.rest) / 8
 }
 
-// Refused: nothing is written.
-fn refused(answer: u8) -> Written
-    ensures { result ≡ record { answer = answer; length = 0 } }
-{
-    Written { answer, length: 0 }
-}
-
-// What fields whose counts are right are due: 25, 27, 20 or 10.
-fn rest_answer(f: Fields, codes: &[u8], body: &[u8], room: usize) -> Written
+// What fields whose counts are right are due: 25, 27, 20 or 10, else their packet's size.
+fn rest_answer(f: Fields, codes: &[u8], body: &[u8], room: usize) -> Result<usize, Refusal>
     requires { count_bad f codes.now body.now ≡ false }
-    ensures { result ≡ written_by (first (drop 2 (write_cases f codes.now body.now room))) (size_for f body.now) }
+    ensures { told result ≡ written_by (first (drop 2 (write_cases f codes.now body.now room))) (size_for f body.now) }
 {
     if !digits_fine(f, codes, body) {
-        return refused(25);
+        return Err(Refusal::Digit);
     }
     if !content_taken(f, codes, body) {
-        return refused(27);
+        return Err(Refusal::Range);
     }
     let size = size_of(f, body.len());
     if size > 250 {
-        return refused(20);
+        return Err(Refusal::PacketSize);
     }
     if room < size {
-        return refused(10);
+        return Err(Refusal::Room);
     }
-    Written {
-        answer: 0,
-        length: size,
-    }
+    Ok(size)
 }
 
-// The writer's answer, and the size of what is to be written.
-pub(crate) fn judged(f: Fields, codes: &[u8], body: &[u8], room: usize) -> Written
-    ensures { result ≡ written f codes.now body.now room }
+// The writer's answer: the size of what is to be written, or why nothing is.
+pub(crate) fn judged(f: Fields, codes: &[u8], body: &[u8], room: usize) -> Result<usize, Refusal>
+    ensures { told result ≡ written f codes.now body.now room }
 {
     if table::not_written(f.typenumber) {
-        return refused(23);
+        return Err(Refusal::Type);
     }
     if counts_bad(f, codes, body) {
-        return refused(26);
+        return Err(Refusal::Length);
     }
     rest_answer(f, codes, body, room)
 }
