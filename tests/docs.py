@@ -103,10 +103,16 @@ def takes_input(contract):
 
 
 def tells(crate, left, head):
-    """Whether the left side names the whole answer by what is told of it: a law of the crate, `told_apart`, says that no two answers are told alike."""
+    """Whether the left side names the whole answer by what is told of it: a law, WORD_apart beside the WORD's definition, says that no two are told alike."""
     if left == "answer_of result":
         return "-> Result<(), Refusal>" in " ".join(head.split())
-    return re.fullmatch(r"(?:told|no_room)(?: \w+)? result", left) and any(re.search(r"^ *pub told_apart :", text(p), re.M) for p in files("crates/%s/proofs/*.antt" % crate))
+    word = re.fullmatch(r"(\w+)(?: \w+)? result", left)
+    if not word:
+        return False
+    from_where = r"Rattle\.(\w+)\.specs\.[\w.]+\.\{[^}]*\b%s\b" % word.group(1)
+    homes = {home for path in files("crates/%s/src/**/*.rt" % crate) for home in re.findall(from_where, text(path))}
+    law = re.compile(r"^ *pub %s_apart :" % word.group(1).replace("no_room", "told"), re.M)
+    return any(law.search(text(p)) for home in homes for p in files("crates/%s/proofs/*.antt" % home))
 
 
 def is_closed(crate, contract, forms):

@@ -4,3 +4,4 @@ pub mod OnePlace
 pub mod AllPlaces
 pub mod Calls
 pub mod Seen
+pub mod Told

@@ -7,6 +7,7 @@ use std::rt::Files;
 
 // The bytes of 4,096 records, and of a report.
 const SHELF: usize = 1048576;
+
 const REPORT: usize = 262144;
 
 // Reads a file, and answers how many bytes it has: one, which is no shelf and so refused with 34 in its turn, where it is longer or can't be read to its end.

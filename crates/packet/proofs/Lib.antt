@@ -10,3 +10,4 @@ pub mod Bytes
 pub mod Lent
 pub mod Spans
 pub mod Columns
+pub mod Told

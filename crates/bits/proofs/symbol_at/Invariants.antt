@@ -6,4 +6,3 @@ use Rattle.bits.proofs.symbol_at.Given as goal
 
 abbrev pub invariant-loop-k : goal.invariant-loop-k
 invariant-loop-k l = (l.k ≤ 32) × (length l.s ≡ 32) × ((j : ℕ) → j < l.k → get_or l.s j nan ≡ number_at l.bytes (l.at + 8 * j))
-

@@ -12,7 +12,7 @@ returns-then-frame-ne8 c = says_26 _ (λ i. (c.type_inv.frame i).fits) c.if-fram
 pub returns-then-frame : goal.returns-then-frame
 returns-then-frame c =
     elim c.then-frame.branch [
-      then-frame-via-then-frame w ↦ says_12 _ (λ i. (c.type_inv.frame i).fits) c.if-frame-ne8.false (λ e. w.if-frame.true e.0)
+      | then-frame-via-then-frame w ↦ says_12 _ (λ i. (c.type_inv.frame i).fits) c.if-frame-ne8.false (λ e. w.if-frame.true e.0)
       | then-frame-via-else-frame+then-frame-ne0 w ↦ says_12 _ (λ i. (c.type_inv.frame i).fits) c.if-frame-ne8.false (λ e. w.if-frame-ne0.true e.1)
     ]
 

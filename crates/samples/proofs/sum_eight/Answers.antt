@@ -16,8 +16,8 @@ loop-k-init c = refl
 pub loop-k-preserved : goal.loop-k-preserved
 loop-k-preserved c = let e = c in
     let l = c.loop-k in
-      ap (λ (t : Float). add binary64 t (get_or e.args.symbol.now (e.args.from + 2 * l.k) nan)) l.invariant
-          ∙ total_more e.args.symbol.now e.args.from l.k e.requires.t (omega arith) (omega arith)
+    ap (λ (t : Float). add binary64 t (get_or e.args.symbol.now (e.args.from + 2 * l.k) nan)) l.invariant
+    ∙ total_more e.args.symbol.now e.args.from l.k e.requires.t (omega arith) (omega arith)
 
 pub returns : goal.returns
 returns c = let e = c in

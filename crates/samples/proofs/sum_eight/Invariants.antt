@@ -7,4 +7,3 @@ use Rattle.samples.proofs.sum_eight.Given as goal
 
 abbrev pub invariant-loop-k : goal.invariant-loop-k
 invariant-loop-k l = (l.sum ≡ of_whole (total l.symbol l.from l.k))
-
