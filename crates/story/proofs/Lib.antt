@@ -9,4 +9,4 @@ pub mod Back
 pub mod Answers
 pub mod Copying
 pub mod Numbers
-pub mod Told
+pub mod Apart
