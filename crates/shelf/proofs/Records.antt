@@ -3,10 +3,11 @@ use denote.Param.Members.{Mut, Called}
 use denote.Ref.{Bor}
 use mathlib.Core.Path.{◌≡◌, refl, sym, ap, ◌∙◌, subst}
 use mathlib.Core.Bool.{Bool, true, false}
-use mathlib.Core.List.{List}
+use mathlib.Core.List.{List, ◌++◌}
 use Prim.Native.Nat.{ℕ, ◌+◌, ◌*◌, ◌<◌, ◌≤◌}
 use native.Mathlib.Omega.{arith}
-use lib.ListN.{length, take, drop}
+use lib.ListN.{length, take, drop, length-append, length-drop}
+use lib.Seq.{drop-drop, take_at, drop_at}
 use Rattle.std.specs.Prelude.{Option, Some, None, MatchBool, IfSome, IsSomeAnd, option_map}
 use Rattle.std.specs.List.{IsSubsliceAt}
 use Rattle.std.specs.declared.slice.ChunksExact.{ChunksExact}
@@ -74,3 +75,13 @@ module _ (s : List ℕ) (i : ChunksExact ℕ) {F : Type 0} (g : Mut F (Bor (List
         told : (o : Option (Bor (List ℕ))) → IsSomeAnd o (λ x. Called g f (x, tt) false f) → IsSomeAnd o (λ x. false ≡ right x.now)
         told None t = absurd t
         told (Some x) t = says x false t
+
+-- a chunk off the front of what is left behind n records is record n
+pub next_record : (s : List ℕ) (n : ℕ) (x rest : List ℕ) → drop (256 * n) s ≡ x ++ rest → length x ≡ 256 → 256 * n ≤ length s
+    → (256 * (n + 1) ≤ length s) × (rest ≡ drop (256 * (n + 1)) s) × (x ≡ record_at s n)
+next_record s n x rest e k h =
+    let next : 256 * n + 256 ≡ 256 * (n + 1) = omega arith in (
+      omega (arith, sym (length-drop (256 * n) s) ∙ ap length e ∙ length-append x rest),
+      sym (sym (ap (λ (j : ℕ). drop j s) next) ∙ sym (drop-drop 256 (256 * n) s) ∙ ap (drop 256) e ∙ drop_at x rest 256 k),
+      sym (ap (take 256) e ∙ take_at x rest 256 k),
+    )
