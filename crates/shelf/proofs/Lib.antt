@@ -3,5 +3,6 @@ pub mod Stores
 pub mod Entries
 pub mod Answers
 pub mod Adding
+pub mod Records
 pub mod Making
 pub mod Exact

@@ -1,36 +1,19 @@
--- The rules of a record and of a shelf, one law for each way out of the code. Assumes nothing.
-use mathlib.Core.Path.{◌≡◌, sym, ap, ◌∙◌}
+-- The rules of a record and of a shelf. Assumes nothing.
+use mathlib.Core.Path.{◌≡◌}
 use mathlib.Core.Bool.{true, false, not, ◌&&◌}
 use mathlib.Core.List.{List, [], ◌∷◌}
-use Prim.Native.Nat.{ℕ, zero, suc, ◌+◌, ◌%◌, ◌<◌, ◌≤◌}
-use native.Mathlib.Numerals.{add-one}
+use Prim.Native.Nat.{ℕ, zero, suc, ◌%◌, ◌≤◌}
 use native.Mathlib.Omega.{arith}
 use lib.ListN.{length, take}
 use lib.Dec.{eqb, leb}
 use borrow.Author.Tests.{leb-true, eqb-true, not-true}
-use Rattle.laws.specs.Below.{below}
-use Rattle.laws.proofs.Below.{below_no}
 use Rattle.laws.specs.Scan.{all}
-use Rattle.laws.proofs.Cases.{and_yes, and_both}
+use Rattle.laws.proofs.Cases.{and_both}
 use Rattle.frame.specs.Heading.{reserved}
 use Rattle.size.specs.Size.{packet_size}
 use Rattle.shelf.specs.Record.{level_in, version_in, size_in, packet_in, fill_in, closing_in, right}
-use Rattle.shelf.specs.Summary.{record_at, records_in}
-use Rattle.shelf.specs.Shelf.{whole, all_right}
-
--- ---- every record of a shelf
-module _ (s : List ℕ) (i : ℕ) where
-  pub next_right : right (record_at s i) ≡ true → below i (λ k. right (record_at s k)) ≡ true → below (i + 1) (λ k. right (record_at s k)) ≡ true
-  unfolding below
-  next_right e h = rw (add-one i) (and_yes _ e ∙ h)
-
-  pub one_wrong : i < records_in s → right (record_at s i) ≡ false → false ≡ all_right s
-  unfolding all_right
-  one_wrong h e = sym (below_no (records_in s) (λ k. right (record_at s k)) i h e)
-
-  pub all_seen : i ≡ records_in s → below i (λ k. right (record_at s k)) ≡ true → true ≡ all_right s
-  unfolding all_right
-  all_seen e h = sym h ∙ ap (λ (n : ℕ). below n (λ k. right (record_at s k))) e
+use Rattle.shelf.specs.Summary.{records_in}
+use Rattle.shelf.specs.Shelf.{whole}
 
 -- ---- what a record that keeps the rules says
 pub record Keeps (r : List ℕ) : Type 0 where

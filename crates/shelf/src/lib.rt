@@ -60,12 +60,7 @@ fn is_whole(shelf: &[u8]) -> bool
 fn are_right(shelf: &[u8]) -> bool
     ensures { result ≡ all_right shelf.now }
 {
-    for i in 0..shelf.len() / 256 {
-        if !is_right(octets::part(shelf, 256 * i, 256)) {
-            return false;
-        }
-    }
-    true
+    shelf.chunks_exact(256).all(is_right)
 }
 
 // Whether a shelf may be used: 34 or 35 where it may not.

@@ -59,11 +59,7 @@ pub(crate) fn count(shelf: &[u8], summary: &mut [u8])
     requires { (summary.old ≡ summary_of shelf.now 0) × (length shelf.now / 256 ≤ 4096) }
     ensures { summary.new ≡ summary_of shelf.now (length shelf.now / 256) }
 {
-    for i in 0..shelf.len() / 256 {
-        note(
-            summary,
-            type_in(octets::part(shelf, 256 * i, 256)),
-            i as u32,
-        );
+    for (i, record) in shelf.chunks_exact(256).enumerate() {
+        note(summary, type_in(record), i as u32);
     }
 }

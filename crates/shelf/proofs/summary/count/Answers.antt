@@ -1,35 +1,38 @@
 -- `shelf::summary::count`: what its goals need. Assumes nothing.
 use native.Mathlib.Omega.{arith}
-use mathlib.Core.Path.{◌≡◌, ap, ap₂, sym, ◌∙◌}
-use Prim.Native.Nat.{ℕ, ◌/◌}
+use mathlib.Core.Path.{ap, ap₂, sym, subst, ◌∙◌}
+use mathlib.Core.List.{List}
+use Prim.Native.Nat.{ℕ, ◌*◌, ◌≤◌}
 use native.Mathlib.Numerals.{add-one}
-use lib.ListN.{length}
+use lib.ListN.{length, drop}
+use borrow.Author.Rules.{rules}
+use Rattle.std.specs.Iterator.Adapters.{enumerate_source, enumerate_count}
+use Rattle.std.specs.Slice.Iter.{chunks_exact_rest}
 use Rattle.shelf.specs.Record.{type_in}
-use Rattle.shelf.specs.Summary.{summary_of, noted}
+use Rattle.shelf.specs.Summary.{record_at, summary_of, noted}
 use Rattle.shelf.proofs.Entries.{one_more, summary_length}
+use Rattle.shelf.proofs.Records.{next_record}
 use Rattle.shelf.proofs.summary.count.Goals as goal
 
-pub loop-i-init : goal.loop-i-init
-loop-i-init c = c.requires.0
-
 pub note-requires : goal.note-requires
-note-requires c = (ap length c.loop-i.invariant ∙ summary_length c.args.shelf.now c.loop-i.i, c.type_in.ensures.1)
+note-requires c = (ap length c.loop-i.invariant.5 ∙ summary_length c.args.shelf.now _, c.type_in.ensures.1)
 
 pub loop-i-preserved : goal.loop-i-preserved
 loop-i-preserved c =
-    let l = c.loop-i in
     let s = c.args.shelf.now in
-    c.note.ensures
-    ∙ ap₂ (λ (t : ℕ) (m : _). noted m t l.i) (c.type_in.ensures.0 ∙ ap type_in c.part.ensures) l.invariant
-    ∙ one_more s l.i (omega arith)
-    ∙ ap (summary_of s) (sym (add-one l.i))
-
-pub shape_of-summary : goal.shape_of-summary
-shape_of-summary c =
-    let s = c.args.shelf.now in
-    ap length c.loop-i.invariant ∙ summary_length s c.loop-i.i ∙ sym (ap length c.requires.0 ∙ summary_length s 0)
-
-pub returns : goal.returns
-returns c =
-    let e : c.loop-i.i ≡ length c.args.shelf.now / 256 = omega arith in
-    c.loop-i.invariant ∙ ap (summary_of c.args.shelf.now) e
+    let n = enumerate_count c.loop-i.i-iterator in
+    let step = c.in-Some.ensures.steps in
+    let kept = c.loop-i.invariant in
+    let next = next_record s n c.in-Some.record.now (chunks_exact_rest (enumerate_source c.next.new.self)) (sym kept.4 ∙ step.0.1.0) (step.0.1.1 ∙ kept.2) kept.3 in
+    let goes = sym step.2 in (
+      search rules,
+      search rules,
+      step.0.0 ∙ kept.2,
+      subst (λ (j : ℕ). 256 * j ≤ length s) goes next.0,
+      next.1 ∙ ap (λ (j : ℕ). drop (256 * j) s) goes,
+      c.note.ensures
+          ∙ ap₂ (λ (t : ℕ) (m : List ℕ). noted m t c.in-Some.i) (c.type_in.ensures.0 ∙ ap type_in next.2) kept.5
+          ∙ ap (λ (j : ℕ). noted (summary_of s n) (type_in (record_at s n)) j) step.1
+          ∙ one_more s n (omega (arith, next.0, c.requires.1))
+          ∙ ap (summary_of s) (sym (add-one n) ∙ goes),
+    )
