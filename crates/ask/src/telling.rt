@@ -33,10 +33,13 @@ fn told(
     memory: &mut [u8],
 ) -> io::Result<()> {
     let e = n.min(memory.len());
-    let t = tell::tell(s, codes, text, &mut memory[0..e]);
-    say::one(rt, b"tell", t.answer as u64)?;
-    say::number(rt, t.parts as u64)?;
-    say::memory(rt, memory, t.length)
+    let (answer, parts, length) = match tell::tell(s, codes, text, &mut memory[0..e]) {
+        Ok(t) => (0, t.parts, t.length),
+        Err(refusal) => (refusal.number(), 0, 0),
+    };
+    say::one(rt, b"tell", answer.into())?;
+    say::number(rt, parts as u64)?;
+    say::memory(rt, memory, length)
 }
 
 // A whole record.

@@ -16,9 +16,8 @@ use Rattle.trips.specs.Given.{Typed, packet_of, GivesBack}
 use Rattle.trips.proofs.Answers.{write_answer}
 use Rattle.trips.proofs.There.{packet_is, fields_come_back}
 use Rattle.story.specs.declared.Story.{Story}
-use Rattle.story.specs.declared.Told.{Told}
+use Rattle.story.specs.Telling.{Told, part_fields, part_body, part_packet, part_texts, part_count, packets_of, bytes_of, tell_cases, told_answer, told_by, told, tell_output}
 use Rattle.story.specs.Joining.{Joined, text_in, join_cases, join_answer, joined_by, joined, join_output}
-use Rattle.story.specs.Telling.{part_fields, part_body, part_packet, part_texts, part_count, packets_of, bytes_of, tell_cases, told_answer, told_by, told, tell_output}
 use Rattle.story.specs.Given.{Given}
 use Rattle.story.proofs.Answers.{tell_apart, join_apart, told_no, joined_no}
 use Rattle.story.proofs.Back.{sent}

@@ -73,22 +73,21 @@ fn put_all(rt: &impl Print, packets: &[u8], parts: usize, level: u8, first: u8) 
 fn send(rt: &impl Print, b: &[u8]) -> io::Result<()> {
     let mut packets = [0u8; 2250];
     let n = codes_length(b);
-    let told = tell::tell(
+    match tell::tell(
         story(b),
         octets::part(b, 119, n),
         octets::part(b, 119 + n, 65536),
         &mut packets,
-    );
-    if told.answer != 0 {
-        return say(rt, told.answer, 0, 0);
+    ) {
+        Ok(told) => put_all(
+            rt,
+            octets::part(&packets, 0, told.length),
+            told.parts,
+            octets::byte(b, 0),
+            octets::byte(b, 1),
+        ),
+        Err(refusal) => say(rt, refusal.number(), 0, 0),
     }
-    put_all(
-        rt,
-        octets::part(&packets, 0, told.length),
-        told.parts,
-        octets::byte(b, 0),
-        octets::byte(b, 1),
-    )
 }
 
 // No text that can be told is longer than what is read at once.

@@ -1,11 +1,13 @@
 -- The packets of a story, and what telling it answers (paper 02, K1).
-use Rattle.std.specs.Prelude.{ℕ, zero, suc, ◌+◌, ◌-◌, ◌*◌, ◌/◌, ◌%◌, List, [], ◌∷◌, ◌++◌, length, take, get_or, ltb}
+use Rattle.std.specs.Prelude.{Result, Ok, Err, ℕ, zero, suc, ◌+◌, ◌-◌, ◌*◌, ◌/◌, ◌%◌, List, [], ◌∷◌, ◌++◌, length, take, get_or, ltb}
 use Rattle.laws.specs.Refusals.{Case, first}
 use Rattle.packet.specs.declared.Content.TheVariants as content
 use Rattle.packet.specs.declared.Fields.{Fields}
 use Rattle.packet.specs.Writing.{write_cases, bytes_for, output_by}
 use Rattle.story.specs.declared.Story.{Story}
-use Rattle.story.specs.declared.Told.{Told}
+use Rattle.story.specs.declared.Told.{Told as Extent}
+use Rattle.refusal.specs.declared.Refusal.{Refusal}
+use Rattle.refusal.specs.Refusal.{number_of}
 use Rattle.story.specs.Characters.{lone, parted}
 use Rattle.laws.specs.Lists.{together}
 
@@ -100,6 +102,17 @@ unfoldable pub told_answer : Story → List ℕ → List ℕ → ℕ → ℕ
 told_answer s codes text room = first (tell_cases s codes text room)
 
 -- ---- what is given back: parts and bytes beside 0, zeros beside a refusal
+-- a number given back, how many parts, and how many bytes in all
+pub record Told : Type 0 where
+  pub answer : ℕ
+  pub parts : ℕ
+  pub length : ℕ
+
+-- the three that a result tells
+abbrev pub told_as : Result Extent Refusal → Told
+told_as (Ok t) = record { answer = 0; parts = t.parts; length = t.length }
+told_as (Err e) = record { answer = number_of e; parts = 0; length = 0 }
+
 abbrev pub told_by : ℕ → ℕ → ℕ → Told
 told_by zero n m = record { answer = 0; parts = n; length = m }
 told_by (suc a) n m = record { answer = suc a; parts = 0; length = 0 }

@@ -15,10 +15,9 @@ pub struct Story {
     pub signature: [u8; 64],
 }
 
-// The answer of telling, how many parts, and how many bytes in all.
+// How many parts were told, and how many bytes in all.
 #[derive(Clone, Copy)]
 pub struct Told {
-    pub answer: u8,
     pub parts: usize,
     pub length: usize,
 }

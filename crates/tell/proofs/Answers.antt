@@ -19,10 +19,9 @@ use Rattle.packet.specs.Table.{kind_of}
 use Rattle.packet.specs.Reading.{is_unknown}
 use Rattle.packet.specs.Writing.{size_for, count_bad, digit_bad, not_taken, written_answer, output_by}
 use Rattle.story.specs.declared.Story.{Story}
-use Rattle.story.specs.declared.Told.{Told}
+use Rattle.story.specs.Telling.{Told, head_of, room_with, last_four, own_cases, later_cases, part_texts, part_count, part_packet, packets_from, packets_of, bytes_of, told_answer, told_by, told, tell_output}
 use Rattle.story.specs.Characters.{characters, lone, parted}
 use Rattle.laws.specs.Lists.{together}
-use Rattle.story.specs.Telling.{head_of, room_with, last_four, own_cases, later_cases, part_texts, part_count, part_packet, packets_from, packets_of, bytes_of, told_answer, told_by, told, tell_output}
 use Rattle.story.proofs.Dealing.{some_part}
 use Rattle.story.proofs.Whole.{whole_characters}
 use Rattle.story.specs.Given.{Lengths}

@@ -1,12 +1,14 @@
 // The packets of a story's parts.
 ghost use Rattle.std.specs.Prelude.{◌≡◌, ◌+◌, ◌<◌, ◌≤◌, length};
 ghost use Rattle.std.proofs.lemmas.List.Edits.{sets};
+ghost use Rattle.refusal.specs.Refusal.{answer_of};
 ghost use Rattle.packet.specs.Writing.{written_answer};
 ghost use Rattle.story.specs.Telling.{head_of, number_after, fields_with, part_packet, bytes_of};
 ghost use Rattle.tell.specs.Steps.{Sendable, AllSendable};
 
 use crate::characters;
 use packet::{Content, Fields};
+use refusal::Refusal;
 use story::Story;
 
 // How a text is parted: into how many parts, how many bytes of it have room in one, and how many more a packet has.
@@ -48,15 +50,13 @@ fn fields_with(story: Story, digits: [u8; 35], t: usize) -> Fields
 }
 
 // What the packet writer answers for a part with no text, where there is room.
-pub(crate) fn own_answer(story: Story, codes: &[u8]) -> u8
-    ensures { result ≡ written_answer (fields_with story story.digits 4) codes.now (head_of 1 1) 250 }
+pub(crate) fn own_answer(story: Story, codes: &[u8]) -> Result<(), Refusal>
+    ensures { answer_of result ≡ written_answer (fields_with story story.digits 4) codes.now (head_of 1 1) 250 }
 {
     let f = fields_with(story, story.digits, 4);
     let mut scratch = [0u8; 250];
-    match writer::write(f, codes, b"1/1 ", &mut scratch) {
-        Ok(_) => 0,
-        Err(refusal) => refusal.number(),
-    }
+    writer::write(f, codes, b"1/1 ", &mut scratch)?;
+    Ok(())
 }
 
 // The head of a part.
