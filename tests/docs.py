@@ -270,7 +270,7 @@ def division_holds():
 
 def main():
     # a landing's note speaks of its own commit, and the port's pages set old beside new, so their names are not looked up later
-    pages = ["README.md"] + [page for page in files("docs/*.md") if not page.startswith("docs/PORT")]
+    pages = ["README.md"] + [page for page in files("docs/*.md") if not page.startswith(("docs/PORT", "docs/DESIGN-PASS"))]
     for page in pages:
         page_holds(page)
     for page in pages + files("docs/landings/*.md"):
