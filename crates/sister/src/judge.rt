@@ -151,7 +151,12 @@ fn rest_answer(c: Command, address: &[u8], codes: &[u8], room: usize) -> Result<
 }
 
 // The writer's answer.
-pub(crate) fn written_answer(c: Command, address: &[u8], codes: &[u8], room: usize) -> Result<(), Refusal>
+pub(crate) fn written_answer(
+    c: Command,
+    address: &[u8],
+    codes: &[u8],
+    room: usize,
+) -> Result<(), Refusal>
     ensures { answer_of result ≡ written_answer c address.now codes.now room }
 {
     if parts::tag_of(puts::kind_for(c)) == 0 {
