@@ -1,3 +1,4 @@
+pub mod Told
 pub mod Marks
 pub mod NumberMarks
 pub mod OnePlace
