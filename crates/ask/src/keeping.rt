@@ -51,10 +51,13 @@ fn received(
 }
 
 fn offered(rt: &impl Print, c: Holdings, frame: &[u8]) -> io::Result<Holdings> {
-    let o = collector::offer(c, frame);
-    say::one(rt, b"offer", o.answer as u64)?;
+    let (answer, next) = match collector::offer(c, frame) {
+        Ok(offered) => (offered.kept.number(), offered.collector),
+        Err(refusal) => (refusal.number(), c),
+    };
+    say::one(rt, b"offer", answer.into())?;
     say::text(rt, b"\n")?;
-    Ok(o.collector)
+    Ok(next)
 }
 
 fn released(rt: &impl Print, c: Holdings, level: u8, version: u8) -> io::Result<Holdings> {

@@ -5,6 +5,8 @@ use mathlib.Core.Bool.{true, false, cond, not}
 use Prim.Native.Nat.{ℕ, ◌≤◌, ◌<◌}
 use native.Mathlib.Omega.{arith}
 use lib.ListN.{length, take}
+use borrow.Author.Rules.{rules}
+use denote.Enum.Bare.{sameb, same_true, same_false}
 use lib.Dec.{eqb}
 use borrow.Author.Tests.{lt-ltb, le-ltb, eq-eqb, ne_eqb, eqb-true, eqb-false}
 use Rattle.laws.specs.Scan.{all}
@@ -15,15 +17,20 @@ use Rattle.laws.proofs.Elements.{by_test}
 use Rattle.frame.specs.declared.Heading.{Heading}
 use Rattle.frame.specs.Heading.{refusals, heading_fields, heading_of}
 use Rattle.frame.proofs.Accepted.{answer_is, fields_are, refused_with}
-use Rattle.collector.specs.declared.Offered.{Offered}
+use Rattle.collector.specs.Collector.{Offered}
 use Rattle.std.specs.Prelude.{Result, Ok, Err}
 use Rattle.std.specs.Result.{result_unwrap_or}
 use Rattle.refusal.specs.declared.Refusal.{Refusal}
-use Rattle.refusal.specs.Refusal.{value_or}
-use Rattle.collector.specs.Places.{Copied, copy_told}
+use Rattle.refusal.specs.declared.Refusal.TheVariants as refusal
+use Rattle.refusal.specs.contracts.Refusal.{the_type}
+use Rattle.refusal.specs.Refusal.{number_of, value_or}
+use Rattle.refusal.proofs.Numbers.{same_number}
+use Rattle.collector.specs.declared.Kept.{Kept}
+use Rattle.collector.specs.declared.Kept.TheVariants as pair
+use Rattle.collector.specs.declared.Offered.{Offered as Offer}
+use Rattle.collector.specs.Places.{kept_number, Copied, copy_told}
 use Rattle.collector.specs.declared.Holdings.{Holdings}
-use Rattle.collector.specs.declared.Outcome.{Outcome}
-use Rattle.collector.specs.Layout.{tops_clear, as_collector, sound, offer_gives, release_gives, copy_gives, copy_leaves}
+use Rattle.collector.specs.Layout.{offer_told, tops_clear, as_collector, sound, offer_gives, release_gives, copy_gives, copy_leaves, Outcome}
 use Rattle.collector.proofs.Calls.{offer_heading}
 use Rattle.collector.proofs.Seen.{offer_same, offer_28_exactly}
 use Rattle.stories.specs.declared.Shown.{Shown}
@@ -31,7 +38,7 @@ use Rattle.stories.specs.Tales.{fair, zeros}
 use Rattle.stories.specs.Stories.{taken_in, taken_output}
 use Rattle.board.specs.declared.Board.{Board}
 use Rattle.board.specs.declared.Heard.{Heard}
-use Rattle.board.specs.Board.{room_made, ready_for, offered_at, good_board, packet_in, packet_of, unheard, whole_heard, refused_for, offered_to, heard_of, heard_output}
+use Rattle.board.specs.Board.{refused_for_this, room_made, ready_for, offered_at, good_board, packet_in, packet_of, unheard, whole_heard, refused_for, offered_to, heard_of, heard_output}
 
 -- ---- the collector's answer tells of its record, and of the frame's heading
 module _ (c : Holdings) (f : List ℕ) where
@@ -56,6 +63,37 @@ module _ (c : Holdings) (f : List ℕ) where
 
   pub heading_read : (offer_gives c f).answer ≡ 1 → (heading_of f).answer ≡ 0
   heading_read e = answer_is f ∙ heading_zero e
+
+-- ---- an offer that was refused, by numbers
+-- no number is both that of an accepted frame and 16, or 28
+not_16 : (k : Kept) → kept_number k ≡ 16 → ⊥
+not_16 pair.Missing z = omega arith
+not_16 pair.Whole z = omega arith
+not_16 pair.Same z = omega arith
+not_16 pair.BegunAgain z = omega arith
+not_16 pair.Spoiled z = omega arith
+
+not_28 : (k : Kept) → kept_number k ≡ 28 → ⊥
+not_28 pair.Missing z = omega arith
+not_28 pair.Whole z = omega arith
+not_28 pair.Same z = omega arith
+not_28 pair.BegunAgain z = omega arith
+not_28 pair.Spoiled z = omega arith
+
+pub full_told : (h : Holdings) (r : Result Offer Refusal) → refused_for_this r refusal.Place ≡ eqb (offer_told h r).answer 16
+full_told h (Ok o) = sym (ne_eqb _ 16 (not_16 o.kept))
+full_told h (Err e) = refl
+
+pub bad_told : (h : Holdings) (r : Result Offer Refusal) → refused_for_this r refusal.State ≡ eqb (offer_told h r).answer 28
+bad_told h (Ok o) = sym (ne_eqb _ 28 (not_28 o.kept))
+bad_told h (Err e) = refl
+
+-- two refusals are one where their numbers are
+pub same_refusal : (d e : Refusal) → sameb the_type d e ≡ eqb (number_of d) (number_of e)
+same_refusal d e =
+    by_test (sameb the_type d e)
+    (λ t. t ∙ sym (eq-eqb _ _ (ap number_of (same_true the_type (search rules) d e t))))
+    (λ t. t ∙ sym (ne_eqb _ _ (λ z. same_false the_type d e t (same_number d e z))))
 
 -- what stands for the value of a refusal, as the code takes it
 pub taken_or : {A : Type 0} (r : Result A Refusal) (beside : A) → result_unwrap_or r beside ≡ value_or beside r

@@ -1,11 +1,13 @@
 -- A pier board: frames in, texts out (the pier board).
-use Rattle.std.specs.Prelude.{ℕ, List, [], ◌∷◌, ◌++◌, Bool, cond, not, ◌&&◌, length, get_or, take, drop, ltb, eqb}
+use Rattle.std.specs.Prelude.{Result, Ok, Err, false, ℕ, List, [], ◌∷◌, ◌++◌, Bool, cond, not, ◌&&◌, length, get_or, take, drop, ltb, eqb}
 use Rattle.laws.specs.Scan.{all}
 use Rattle.laws.specs.Refusals.{first}
 use Rattle.frame.specs.Heading.{heading_fields}
+use Rattle.refusal.specs.declared.Refusal.{Refusal}
+use Rattle.refusal.specs.Refusal.{number_of}
 use Rattle.collector.specs.declared.Holdings.{Holdings}
-use Rattle.collector.specs.declared.Outcome.{Outcome}
-use Rattle.collector.specs.Layout.{no_holdings, blank_holding, made_free, sound, offer_gives, release_gives, copy_gives, copy_leaves}
+use Rattle.collector.specs.declared.Offered.{Offered}
+use Rattle.collector.specs.Layout.{no_holdings, blank_holding, made_free, sound, offer_gives, release_gives, copy_gives, copy_leaves, Outcome}
 use Rattle.stories.specs.declared.Shown.{Shown}
 use Rattle.stories.specs.Tales.{fair, zeros}
 use Rattle.stories.specs.Stories.{no_stories, taken_in, taken_output}
@@ -27,6 +29,11 @@ room_made c = record { places = drop 1 c.places ++ (made_free (get_or c.places 0
 -- the collector that the frame is offered to
 unfoldable pub ready_for : Holdings → List ℕ → Holdings
 ready_for c f = cond (eqb (offer_gives c f).answer 16) (room_made c) c
+
+-- an offer was refused, and for this (ours, between functions)
+abbrev pub refused_for_this : Result Offered Refusal → Refusal → Bool
+refused_for_this (Ok o) why = false
+refused_for_this (Err e) why = eqb (number_of e) (number_of why)
 
 -- what it answers and leaves
 abbrev pub offered_at : Holdings → List ℕ → Outcome

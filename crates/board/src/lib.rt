@@ -2,11 +2,12 @@
 #![tactic(auto)]
 
 ghost use Rattle.std.specs.Prelude.{◌≡◌, cond, length, eqb};
-ghost use Rattle.collector.specs.Layout.{offer_gives};
+ghost use Rattle.collector.specs.Layout.{left_by, offer_told, offer_gives};
 ghost use Rattle.stories.specs.Stories.{taken_output};
-ghost use Rattle.board.specs.Board.{quiet_board, room_made, offered_at, packet_of, unheard as unheard_with, whole_heard, heard_of, heard_output};
+ghost use Rattle.board.specs.Board.{quiet_board, room_made, offered_at, packet_of, refused_for_this, unheard as unheard_with, whole_heard, heard_of, heard_output};
 
-use collector::{Holdings, Outcome};
+use collector::{Holdings, Kept, Offered};
+use refusal::Refusal;
 use stories::Stories;
 
 // What a board keeps: the packets being collected, and the stories that it waits for.
@@ -59,8 +60,8 @@ fn level_with(answer: u8, level: u8) -> u8
 }
 
 // The frame made its pair's packet whole: it is copied, the pair released, and the packet taken into the stories.
-fn take_whole(board: Board, frame: &[u8], offered: Outcome, out: &mut [u8]) -> Heard
-    requires { (offered ≡ offered_at board.collector frame.now) × (offered.answer ≡ 1) }
+fn take_whole(board: Board, frame: &[u8], offered: Offered, out: &mut [u8]) -> Heard
+    requires { (left_by offered ≡ offered_at board.collector frame.now) × ((left_by offered).answer ≡ 1) }
     ensures answer { result ≡ whole_heard board frame.now (length out.old) }
     ensures output { out.new ≡ taken_output board.stories (packet_of board frame.now) out.old }
 {
@@ -95,15 +96,39 @@ fn make_room(c: Holdings) -> Holdings
     d
 }
 
-// The offer as it was; where other pairs hold every place one gives way, and the frame is offered again.
-fn offer_with_room(c: Holdings, frame: &[u8], first: Outcome) -> Outcome
-    requires { first ≡ offer_gives c frame.now }
-    ensures { result ≡ offered_at c frame.now }
+// Whether the offer was refused, and for this.
+fn is_refused(offered: Result<Offered, Refusal>, why: Refusal) -> bool
+    ensures { result ≡ refused_for_this offered why }
 {
-    if first.answer == 16 {
-        return collector::offer(make_room(c), frame);
+    match offered {
+        Ok(_) => false,
+        Err(refusal) => refusal == why,
     }
-    first
+}
+
+// A collector that a frame was offered to, and what came of it.
+#[derive(Clone, Copy)]
+struct Trial {
+    collector: Holdings,
+    offered: Result<Offered, Refusal>,
+}
+
+// The offer as it was; where other pairs hold every place one gives way, and the frame is offered again.
+fn offer_with_room(c: Holdings, frame: &[u8], first: Result<Offered, Refusal>) -> Trial
+    requires { offer_told c first ≡ offer_gives c frame.now }
+    ensures { offer_told result.collector result.offered ≡ offered_at c frame.now }
+{
+    if is_refused(first, Refusal::Place) {
+        let room = make_room(c);
+        return Trial {
+            collector: room,
+            offered: collector::offer(room, frame),
+        };
+    }
+    Trial {
+        collector: c,
+        offered: first,
+    }
 }
 
 // Hears a frame: 28 or 10; the collector's answer where no packet is whole with it; else 6, 5 or 4, or 1 and a text from the output's first byte on.
@@ -117,15 +142,20 @@ pub fn hear(board: Board, frame: &[u8], out: &mut [u8]) -> Heard
         return unheard(28, c, s);
     }
     let first = collector::offer(c, frame);
-    if first.answer == 28 {
+    if is_refused(first, Refusal::State) {
         return unheard(28, c, s);
     }
     if out.len() < 1341 {
         return unheard(10, c, s);
     }
-    let o = offer_with_room(c, frame, first);
-    if o.answer != 1 {
-        return unheard(o.answer, o.collector, s);
+    let trial = offer_with_room(c, frame, first);
+    match trial.offered {
+        Ok(o) => {
+            if o.kept == Kept::Whole {
+                return take_whole(board, frame, o, out);
+            }
+            unheard(o.kept.number(), o.collector, s)
+        }
+        Err(refusal) => unheard(refusal.number(), trial.collector, s),
     }
-    take_whole(board, frame, o, out)
 }

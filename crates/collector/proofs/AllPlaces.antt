@@ -19,10 +19,9 @@ use Rattle.collector.specs.declared.Place.{Place}
 use Rattle.collector.specs.declared.Holding.{Holding}
 use Rattle.collector.specs.declared.Collector.{Collector}
 use Rattle.collector.specs.declared.Piece.{Piece}
-use Rattle.collector.specs.declared.Offered.{Offered}
 use Rattle.collector.specs.Whole.{passes}
 use Rattle.collector.specs.Places.{blank, is_pair, pairs_apart, taken_for, stored, marks_below, complete, fair, contradicts, again, against, joined, whole, spoiled, state}
-use Rattle.collector.specs.Collector.{good, index_of_pair, place_of, is_held, is_free, index_of_free, put, its_place, spot, after, take_cases, keeps, taken_in, kept, begun}
+use Rattle.collector.specs.Collector.{good, index_of_pair, place_of, is_held, is_free, index_of_free, put, its_place, spot, after, take_cases, keeps, taken_in, kept, begun, Offered}
 use Rattle.collector.specs.Layout.{as_place}
 use Rattle.std.proofs.lemmas.List.Folds.{list_all-map}
 use Rattle.collector.proofs.OnePlace.{is_missing, is_whole_lem, is_spoiled}

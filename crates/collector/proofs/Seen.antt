@@ -18,13 +18,11 @@ use Rattle.laws.proofs.Elements.{by_test, get_d_any, all_at, all_head, all_tail,
 use Rattle.collector.specs.declared.Place.{Place}
 use Rattle.collector.specs.declared.Collector.{Collector}
 use Rattle.collector.specs.declared.Piece.{Piece}
-use Rattle.collector.specs.declared.Offered.{Offered}
 use Rattle.collector.specs.declared.Holding.{Holding}
 use Rattle.collector.specs.declared.Holdings.{Holdings}
-use Rattle.collector.specs.declared.Outcome.{Outcome}
 use Rattle.collector.specs.Places.{blank, taken_for, stored, freed, contradicts, copy_cases, copy_answer, Copied}
-use Rattle.collector.specs.Collector.{good, place_of, index_of_pair, put, piece_of, its_place, spot, after, keeps, offer_cases, offered, release_cases, released, answered, copied, nothing, take_cases, copied_cases}
-use Rattle.collector.specs.Layout.{marks_from, number_of, top_clear, tops_clear, as_place, as_collector, as_offered, from_place, from_collector, from_offered, no_holdings, bad_record, sound, offer_due, release_due, copy_due, offer_gives, release_gives, copy_gives, copy_leaves}
+use Rattle.collector.specs.Collector.{good, place_of, index_of_pair, put, piece_of, its_place, spot, after, keeps, offer_cases, offered, release_cases, released, answered, copied, nothing, take_cases, copied_cases, Offered}
+use Rattle.collector.specs.Layout.{marks_from, number_of, top_clear, tops_clear, as_place, as_collector, as_offered, from_place, from_collector, from_offered, no_holdings, bad_record, sound, offer_due, release_due, copy_due, offer_gives, release_gives, copy_gives, copy_leaves, Outcome}
 use Rattle.collector.proofs.AllPlaces.{is_not_held}
 use Rattle.collector.proofs.Calls.{offer_28, release_28, copy_28, bad_first}
 use Rattle.collector.proofs.NumberMarks.{length_marks, number_of_marks, marks_of_number, number_small}

@@ -7,7 +7,6 @@ use Rattle.frame.specs.Heading.{refusals, heading_fields}
 use Rattle.collector.specs.declared.Place.{Place}
 use Rattle.collector.specs.declared.Collector.{Collector}
 use Rattle.collector.specs.declared.Piece.{Piece}
-use Rattle.collector.specs.declared.Offered.{Offered}
 use Rattle.collector.specs.Places.{free, blank, is_pair, pairs_apart, fair, contradicts, again, taken_for, stored, freed, whole, spoiled, state, copy_cases, copy_answer, copy_bytes, Copied}
 
 -- nothing is held (01, Collector)
@@ -46,6 +45,11 @@ abbrev pub put : Collector → ℕ → Place → Collector
 put c i p = record { places = set c.places i p }
 
 -- ---- offer
+
+-- a number given back, and the collector then
+pub record Offered : Type 0 where
+  pub answer : ℕ
+  pub collector : Collector
 
 -- a heading, and the four bytes of packet behind it (01, Frame heading)
 abbrev pub piece_with : Heading → List ℕ → Piece

@@ -1,19 +1,18 @@
 -- One number for the marks of a place (02, K11): bit k for frame k, the top bit always 0. The records that the calls take and give hold
 -- it; each is seen as a record with 63 marks, and what a call gives is what the definitions say of that one.
-use Rattle.std.specs.Prelude.{Result, Bool, false, cond, not, ◌&&◌, List, [], ◌∷◌, ◌++◌, map, ℕ, zero, suc, ◌+◌, ◌*◌, ◌/◌, ◌%◌, ◌^◌, ltb, eqb}
+use Rattle.std.specs.Prelude.{Result, Ok, Err, Bool, false, cond, not, ◌&&◌, List, [], ◌∷◌, ◌++◌, map, ℕ, zero, suc, ◌+◌, ◌*◌, ◌/◌, ◌%◌, ◌^◌, ltb, eqb}
 use Rattle.laws.specs.Scan.{all}
 use Rattle.laws.specs.Refusals.{Case}
 use Rattle.refusal.specs.declared.Refusal.{Refusal}
-use Rattle.refusal.specs.Refusal.{answer_of, value_or}
+use Rattle.refusal.specs.Refusal.{number_of as number_in, answer_of, value_or}
 use Rattle.frame.specs.Heading.{refusals}
 use Rattle.collector.specs.declared.Place.{Place}
 use Rattle.collector.specs.declared.Collector.{Collector}
-use Rattle.collector.specs.declared.Offered.{Offered}
+use Rattle.collector.specs.declared.Offered.{Offered as Left}
 use Rattle.collector.specs.declared.Holding.{Holding}
 use Rattle.collector.specs.declared.Holdings.{Holdings}
-use Rattle.collector.specs.declared.Outcome.{Outcome}
-use Rattle.collector.specs.Places.{copy_cases, Copied}
-use Rattle.collector.specs.Collector.{nothing, good, place_of, piece_of, take_cases, offered, released, answered, copied}
+use Rattle.collector.specs.Places.{kept_number, copy_cases, Copied}
+use Rattle.collector.specs.Collector.{Offered, nothing, good, place_of, piece_of, take_cases, offered, released, answered, copied}
 
 -- ---- a number and its marks
 
@@ -50,9 +49,23 @@ as_place p =
 abbrev pub as_collector : Holdings → Collector
 as_collector h = record { places = map as_place h.places }
 
+-- a number given back, and the record then
+pub record Outcome : Type 0 where
+  pub answer : ℕ
+  pub collector : Holdings
+
 -- what a call gives back
 abbrev pub as_offered : Outcome → Offered
 as_offered r = record { answer = r.answer; collector = as_collector r.collector }
+
+-- what an offer that is not refused leaves
+abbrev pub left_by : Left → Outcome
+left_by o = record { answer = kept_number o.kept; collector = o.collector }
+
+-- what the result of an offer tells: beside a refusal what was held stands (01, Numbers given back)
+abbrev pub offer_told : Holdings → Result Left Refusal → Outcome
+offer_told h (Ok o) = left_by o
+offer_told h (Err e) = record { answer = number_in e; collector = h }
 
 -- what the result of a release tells: beside a refusal what was held stands (01, Numbers given back)
 abbrev pub release_told : Holdings → Result Holdings Refusal → Outcome

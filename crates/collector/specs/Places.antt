@@ -1,12 +1,16 @@
 -- One place (paper 01, "Collector"), over the declared records. An array is the list of its elements.
-use Rattle.std.specs.Prelude.{Result, Bool, true, false, cond, not, ◌&&◌, ◌||◌, List, [], ◌∷◌, ◌++◌, ℕ, ◌+◌, ◌*◌, ◌<◌, length, get_or, set, take, drop, replicate, leb, ltb, eqb}
+use Rattle.std.specs.Prelude.{Result, Ok, Err, Bool, true, false, cond, not, ◌&&◌, ◌||◌, List, [], ◌∷◌, ◌++◌, ℕ, ◌+◌, ◌*◌, ◌<◌, length, get_or, set, take, drop, replicate, leb, ltb, eqb}
 use Rattle.laws.specs.Below.{below}
 use Rattle.laws.specs.Refusals.{Case, first}
 use Rattle.frame.specs.declared.Number.{Number}
 use Rattle.collector.specs.declared.Place.{Place}
 use Rattle.collector.specs.declared.Piece.{Piece}
+use Rattle.collector.specs.declared.Kept.{Kept}
+use Rattle.collector.specs.declared.Kept.TheVariants as pair
+use Rattle.collector.specs.declared.places.Against.{Against}
+use Rattle.collector.specs.declared.places.Against.TheVariants as has
 use Rattle.refusal.specs.declared.Refusal.{Refusal}
-use Rattle.refusal.specs.Refusal.{answer_of, value_or}
+use Rattle.refusal.specs.Refusal.{number_of, answer_of, value_or}
 use Rattle.size.specs.Size.{packet_size}
 use Rattle.collector.specs.Whole.{passes}
 
@@ -157,10 +161,25 @@ spoiled p = complete p && not (passes (joined p))
 unfoldable pub state : Place → ℕ
 state p = first ((spoiled p, 17) ∷ (whole p, 1) ∷ [])
 
+-- the number of what an accepted frame makes of its pair (01, Numbers given back; 02, K5)
+abbrev pub kept_number : Kept → ℕ
+kept_number pair.Missing = 0
+kept_number pair.Whole = 1
+kept_number pair.Same = 2
+kept_number pair.BegunAgain = 3
+kept_number pair.Spoiled = 17
+
 -- what a place has against a frame of its pair: 15 where a whole one is contradicted, 2 where it holds the frame already, 3 where
 -- another is contradicted (02, K5); else 0
 unfoldable pub against : Place → Piece → ℕ
 against p x = first ((contradicts p x && whole p, 15) ∷ (again p x, 2) ∷ (contradicts p x, 3) ∷ [])
+
+-- the number that the code's result tells of it
+abbrev pub against_told : Result Against Refusal → ℕ
+against_told (Ok has.Nothing) = 0
+against_told (Ok has.Same) = 2
+against_told (Ok has.Contradicted) = 3
+against_told (Err e) = number_of e
 
 -- ---- copy from a place: 18, 10, else 0, the packet's size and its bytes at the start of what is lent
 

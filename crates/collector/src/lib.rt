@@ -4,14 +4,15 @@
 
 ghost use Rattle.std.specs.Prelude.{◌≡◌, true, ◌&&◌, ◌<◌, length, MatchOption};
 ghost use Rattle.laws.specs.Scan.{all};
-ghost use Rattle.collector.specs.Places.{Small, pairs_apart, copy_told};
+ghost use Rattle.collector.specs.Places.{Small, pairs_apart, kept_number, copy_told};
 ghost use Rattle.collector.specs.Collector.{good, index_of_pair, index_of_free, put, piece_with, kept, begun, taken_in};
-ghost use Rattle.collector.specs.Layout.{top_clear, tops_clear, as_place, as_collector, as_offered, no_holdings, offer_gives, release_told, release_gives, copy_gives, copy_leaves};
+ghost use Rattle.collector.specs.Layout.{top_clear, tops_clear, as_place, as_collector, as_offered, left_by, no_holdings, offer_told, offer_gives, release_told, release_gives, copy_gives, copy_leaves};
 
 mod places;
 mod whole;
 
 pub use frame::{Heading, Number, Total};
+use places::Against;
 use refusal::Refusal;
 
 // Room for one packet: the pair and total that it is held for, bit k for each number k held (the top bit is 0), and the bytes.
@@ -31,10 +32,40 @@ pub struct Holdings {
     pub places: [Holding; 4],
 }
 
-// What an offer gives back: its answer, and the holdings then.
+// What an accepted frame makes of its pair: but for `Same` the frame is kept.
+#[derive(Clone, Copy, Debug, PartialEq, Eq)]
+pub enum Kept {
+    // Some number of it is still missing.
+    Missing,
+    // The packet is whole.
+    Whole,
+    // The very same frame was held.
+    Same,
+    // It was contradicted, and is begun again with this frame.
+    BegunAgain,
+    // Every number is held, and the packet does not pass.
+    Spoiled,
+}
+
+impl Kept {
+    // The number that the papers list.
+    pub fn number(self) -> u8
+        ensures { result ≡ kept_number self }
+    {
+        match self {
+            Kept::Missing => 0,
+            Kept::Whole => 1,
+            Kept::Same => 2,
+            Kept::BegunAgain => 3,
+            Kept::Spoiled => 17,
+        }
+    }
+}
+
+// What an offer gives back: what the frame's pair is, and the holdings then.
 #[derive(Clone, Copy)]
-pub struct Outcome {
-    pub answer: u8,
+pub struct Offered {
+    pub kept: Kept,
     pub collector: Holdings,
 }
 
@@ -63,13 +94,6 @@ pub struct Piece {
     pub b: u8,
     pub c: u8,
     pub d: u8,
-}
-
-// An answer, and the collector then.
-#[derive(Clone, Copy)]
-pub struct Offered {
-    pub answer: u8,
-    pub collector: Collector,
 }
 
 // A collector that holds nothing.
@@ -141,82 +165,71 @@ fn put_place(c: Holdings, i: usize, p: Holding) -> Holdings
 }
 
 // The collector with the piece kept in place `i`, which was `p`.
-fn keep_in(c: Holdings, i: usize, p: Holding, x: Piece) -> Outcome
+fn keep_in(c: Holdings, i: usize, p: Holding, x: Piece) -> Offered
     requires { (Small x) × (top_clear p ≡ true) × (tops_clear c ≡ true) }
-    ensures result_value { as_offered result ≡ kept (as_collector c) i (as_place p) x }
+    ensures result_value { as_offered (left_by result) ≡ kept (as_collector c) i (as_place p) x }
     ensures top { tops_clear result.collector ≡ true }
 {
     let q = places::store(p, x);
-    Outcome {
-        answer: places::state_of(q),
+    Offered {
+        kept: places::state_of(q),
         collector: put_place(c, i, q),
     }
 }
 
-// The collector with place `i`, which was `p`, cleared and taken afresh, and the piece kept in it: 3 in place of 0.
-fn begin_again(c: Holdings, i: usize, p: Holding, x: Piece) -> Outcome
+// The collector with place `i`, which was `p`, cleared and taken afresh, and the piece kept in it.
+fn begin_again(c: Holdings, i: usize, p: Holding, x: Piece) -> Offered
     requires { (Small x) × (tops_clear c ≡ true) }
-    ensures result_value { as_offered result ≡ begun (as_collector c) i x }
+    ensures result_value { as_offered (left_by result) ≡ begun (as_collector c) i x }
     ensures top { tops_clear result.collector ≡ true }
 {
     let mut o = keep_in(c, i, places::take(p, x), x);
-    if o.answer == 0 {
-        o.answer = 3;
+    if o.kept == Kept::Missing {
+        o.kept = Kept::BegunAgain;
     }
     o
 }
 
 // The collector with the piece of a pair that no place is held for in the first free place: 16 where there is none.
-fn take_new(c: Holdings, x: Piece) -> Outcome
+fn take_new(c: Holdings, x: Piece) -> Result<Offered, Refusal>
     requires { (Small x) × (tops_clear c ≡ true) × (index_of_pair x.heading.level x.heading.version (as_collector c).places ≡ 4) }
-    ensures result_value { as_offered result ≡ taken_in (as_collector c) x }
-    ensures top { tops_clear result.collector ≡ true }
+    ensures result_value { as_offered (offer_told c result) ≡ taken_in (as_collector c) x }
+    ensures top { tops_clear (offer_told c result).collector ≡ true }
 {
     match first_free(c) {
-        Some(j) => keep_in(c, j, places::take(c.places[j], x), x),
-        None => Outcome {
-            answer: 16,
-            collector: c,
-        },
+        Some(j) => Ok(keep_in(c, j, places::take(c.places[j], x), x)),
+        None => Err(Refusal::Place),
     }
 }
 
-fn take_in(c: Holdings, x: Piece) -> Outcome
+fn take_in(c: Holdings, x: Piece) -> Result<Offered, Refusal>
     requires { (Small x) × (tops_clear c ≡ true) }
-    ensures result_value { as_offered result ≡ taken_in (as_collector c) x }
-    ensures top { tops_clear result.collector ≡ true }
+    ensures result_value { as_offered (offer_told c result) ≡ taken_in (as_collector c) x }
+    ensures top { tops_clear (offer_told c result).collector ≡ true }
 {
     let Some(i) = index_of(c, x.heading.level, x.heading.version) else {
         return take_new(c, x);
     };
     let p = c.places[i];
-    match places::held_against(p, x) {
-        0 => keep_in(c, i, p, x),
-        3 => begin_again(c, i, p, x),
-        answer => Outcome {
-            answer,
+    match places::held_against(p, x)? {
+        Against::Nothing => Ok(keep_in(c, i, p, x)),
+        Against::Contradicted => Ok(begin_again(c, i, p, x)),
+        Against::Same => Ok(Offered {
+            kept: Kept::Same,
             collector: c,
-        },
+        }),
     }
 }
 
-// Takes a frame in: 28, 26, 12, 13, 14, 15, 2 or 16 where it isn't kept, else 0, 1, 3 or 17 by what its pair is now.
-pub fn offer(collector: Holdings, frame: &[u8]) -> Outcome
-    ensures { result ≡ offer_gives collector frame.now }
+// Takes a frame in: refused with 28, 26, 12, 13, 14, 15 or 16, where what was held stands.
+pub fn offer(collector: Holdings, frame: &[u8]) -> Result<Offered, Refusal>
+    ensures { offer_told collector result ≡ offer_gives collector frame.now }
 {
     if !is_good(collector) {
-        return Outcome {
-            answer: 28,
-            collector,
-        };
+        return Err(Refusal::State);
     }
-    match frame::heading_of(frame) {
-        Ok(heading) => take_in(collector, piece_of(heading, frame)),
-        Err(refusal) => Outcome {
-            answer: refusal.number(),
-            collector,
-        },
-    }
+    let heading = frame::heading_of(frame)?;
+    take_in(collector, piece_of(heading, frame))
 }
 
 fn piece_of(heading: Heading, frame: &[u8]) -> Piece

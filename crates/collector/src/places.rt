@@ -2,10 +2,21 @@
 ghost use Rattle.std.specs.Prelude.{◌≡◌, true, false, cond, ◌++◌, ◌+◌, ◌*◌, ◌<◌, ◌≤◌, ◌^◌, length, get_or, take, drop};
 ghost use Rattle.laws.specs.Refusals.{first};
 ghost use Rattle.collector.specs.Whole.{passes};
-ghost use Rattle.collector.specs.Places.{Small, free, is_pair, same_pair, with_mark, marks_below, complete, fair, same_four, against, stored, cleared, taken_for, freed, joined, whole, state, copy_cases, copy_told, copy_answer, copy_bytes};
+ghost use Rattle.collector.specs.Places.{Small, free, is_pair, same_pair, with_mark, marks_below, complete, fair, same_four, against, against_told, stored, cleared, taken_for, freed, joined, whole, state, kept_number, copy_cases, copy_told, copy_answer, copy_bytes};
 ghost use Rattle.collector.specs.Layout.{marks_of, top_clear, as_place, from_place};
 
-use crate::{Heading, Holding, Number, Piece, Refusal, Total, whole};
+use crate::{Heading, Holding, Kept, Number, Piece, Refusal, Total, whole};
+
+// What a place has against a frame of its pair.
+#[derive(Clone, Copy)]
+pub(crate) enum Against {
+    // The frame is new to it.
+    Nothing,
+    // The place holds it already.
+    Same,
+    // The frame contradicts it.
+    Contradicted,
+}
 
 // A place that was never taken.
 pub(crate) fn never_taken() -> Holding
@@ -163,35 +174,45 @@ fn joined_passes(p: Holding) -> bool
     whole::is_whole(&p.bytes[..n.min(252)])
 }
 
-// 0 where some number is missing, else 1 where the packet is whole and 17 where it is spoiled.
-pub(crate) fn state_of(p: Holding) -> u8
-    ensures { result ≡ state (as_place p) }
+// Missing, whole or spoiled, by the marks and the bytes.
+pub(crate) fn state_of(p: Holding) -> Kept
+    ensures { kept_number result ≡ state (as_place p) }
 {
     if !is_complete(p) {
-        return 0;
+        return Kept::Missing;
     }
-    if joined_passes(p) { 1 } else { 17 }
+    if joined_passes(p) {
+        Kept::Whole
+    } else {
+        Kept::Spoiled
+    }
 }
 
-// The number for a contradicted place: 15 where it is whole, 3 where it begins again.
-fn contradiction(p: Holding) -> u8
-    ensures { result ≡ cond (whole (as_place p)) 15 3 }
+// Of a contradicted place: 15 where it is whole; another begins again.
+fn contradiction(p: Holding) -> Result<Against, Refusal>
+    ensures { against_told result ≡ cond (whole (as_place p)) 15 3 }
 {
-    if state_of(p) == 1 { 15 } else { 3 }
+    if state_of(p) == Kept::Whole {
+        return Err(Refusal::Contradiction);
+    }
+    Ok(Against::Contradicted)
 }
 
-// 15 or 3 where the frame contradicts the place, 2 where the place holds it already, else 0.
-pub(crate) fn held_against(p: Holding, x: Piece) -> u8
+// What the place has against the frame: 15 where it is whole and contradicted.
+pub(crate) fn held_against(p: Holding, x: Piece) -> Result<Against, Refusal>
     requires { Small x }
-    ensures { result ≡ against (as_place p) x }
+    ensures { against_told result ≡ against (as_place p) x }
 {
     if p.total.0 != x.heading.total.0 {
         return contradiction(p);
     }
     if !is_marked(p.marks, x.heading.number) {
-        return 0;
+        return Ok(Against::Nothing);
     }
-    if same_four(p, x) { 2 } else { contradiction(p) }
+    if same_four(p, x) {
+        return Ok(Against::Same);
+    }
+    contradiction(p)
 }
 
 // Writes the first n bytes of the place to the start of `out`.
@@ -208,7 +229,7 @@ pub(crate) fn copy_out(p: Holding, out: &mut [u8]) -> Result<usize, Refusal>
     ensures value { copy_told result ≡ copy_answer (first (copy_cases (as_place p) (length out.old))) (as_place p) }
     ensures bytes { out.new ≡ copy_bytes (first (copy_cases (as_place p) (length out.old))) (as_place p) out.old }
 {
-    if state_of(p) != 1 {
+    if state_of(p) != Kept::Whole {
         return Err(Refusal::Unheld);
     }
     let n = size::packet_size(&p.bytes);

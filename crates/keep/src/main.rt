@@ -3,7 +3,7 @@
 // packet that is whole, a byte: 0, and behind it the record's 256 bytes and the 256 of the summary then; or 36 where the shelf is full.
 #![tactic(auto)]
 
-use collector::Holdings;
+use collector::{Holdings, Kept};
 use frame::Heading;
 use receiver::Receiver;
 use refusal::Refusal;
@@ -82,14 +82,17 @@ impl Keeping<'_> {
 
     // Packets that lost a frame for good would hold every place; so where none is free (16) the places give way in turn, and the frame is offered again.
     fn hear(&mut self, rt: &impl Print, frame: &[u8]) -> io::Result<()> {
-        let mut offered = collector::offer(self.collector, frame);
-        if offered.answer == 16 {
+        let mut offer = collector::offer(self.collector, frame);
+        if matches!(offer, Err(Refusal::Place)) {
             self.make_room();
-            offered = collector::offer(self.collector, frame);
+            offer = collector::offer(self.collector, frame);
         }
+        let Ok(offered) = offer else {
+            return Ok(());
+        };
         self.collector = offered.collector;
         match frame::heading_of(frame) {
-            Ok(pair) if offered.answer == 1 => self.take_whole(rt, pair),
+            Ok(pair) if offered.kept == Kept::Whole => self.take_whole(rt, pair),
             _ => Ok(()),
         }
     }

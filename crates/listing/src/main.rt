@@ -23,12 +23,22 @@ impl Listing {
         }
     }
 
+    // Offers a frame, and gives the number of what came of it. Beside a refusal what was held stands.
+    fn offer(&mut self, frame: &[u8]) -> u8 {
+        match collector::offer(self.collector, frame) {
+            Ok(offered) => {
+                self.collector = offered.collector;
+                offered.kept.number()
+            }
+            Err(refusal) => refusal.number(),
+        }
+    }
+
     // Offers a frame and prints its line: sixteen digits, a space, an answer of at most three, the line's end.
     fn show(&mut self, rt: &impl Print, frame: &[u8]) -> io::Result<()> {
-        let offered = collector::offer(self.collector, frame);
-        self.collector = offered.collector;
+        let answer = self.offer(frame);
         let mut line = [0u8; 21];
-        let n = print::frame_line(frame, offered.answer, &mut line);
+        let n = print::frame_line(frame, answer, &mut line);
         if n <= 21 {
             rt.write_all(&line[..n])?;
         }

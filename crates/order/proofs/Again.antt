@@ -17,10 +17,9 @@ use Rattle.frame.proofs.Accepted.{Bounds, bounds}
 use Rattle.collector.specs.declared.Place.{Place}
 use Rattle.collector.specs.declared.Collector.{Collector}
 use Rattle.collector.specs.declared.Piece.{Piece}
-use Rattle.collector.specs.declared.Offered.{Offered}
 use Rattle.collector.specs.Whole.{passes}
 use Rattle.collector.specs.Places.{marked, complete, shaped, same_four, contradicts, again, against, taken_for, stored, joined, whole, state}
-use Rattle.collector.specs.Collector.{index_of_pair, its_place, contradicted, piece_of, begun, offered}
+use Rattle.collector.specs.Collector.{index_of_pair, its_place, contradicted, piece_of, begun, offered, Offered}
 use Rattle.collector.proofs.OnePlace.{opposed, is_missing, is_whole_lem, is_spoiled}
 use Rattle.collector.proofs.AllPlaces.{is_not_held, take_against, take_begun}
 use Rattle.collector.proofs.Marks.{stored_shaped, taken_shaped, mark_own, mark_other, mark_none, one_missing}

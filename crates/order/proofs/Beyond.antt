@@ -23,9 +23,8 @@ use Rattle.frame.proofs.Accepted.{Bounds, bounds, refused_with}
 use Rattle.collector.specs.declared.Place.{Place}
 use Rattle.collector.specs.declared.Collector.{Collector}
 use Rattle.collector.specs.declared.Piece.{Piece}
-use Rattle.collector.specs.declared.Offered.{Offered}
 use Rattle.collector.specs.Places.{blank, is_pair, pairs_apart, marked, same_four, contradicts, against, taken_for, freed, whole}
-use Rattle.collector.specs.Collector.{nothing, good, index_of_pair, its_place, contradicted, put, piece_of, take_cases, keeps, taken_in, offer_cases, offered, released}
+use Rattle.collector.specs.Collector.{nothing, good, index_of_pair, its_place, contradicted, put, piece_of, take_cases, keeps, taken_in, offer_cases, offered, released, Offered}
 use Rattle.collector.proofs.Calls.{offer_apart, release_0, release_18}
 use Rattle.collector.proofs.AllPlaces.{is_held_lem, is_not_held, take_against, against_three}
 use Rattle.order.specs.Held.{Good, Four, bytes_at, four_at, held_place, holds_in, total_in, holds, total_held, starts_over, clears, Act, offering, releasing, run}

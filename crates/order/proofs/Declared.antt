@@ -18,9 +18,8 @@ use Rattle.frame.specs.Heading.{refusals, accepted}
 use Rattle.frame.proofs.Accepted.{refused_with}
 use Rattle.collector.specs.declared.Collector.{Collector}
 use Rattle.collector.specs.declared.Piece.{Piece}
-use Rattle.collector.specs.declared.Offered.{Offered}
 use Rattle.collector.specs.Whole.{passes}
-use Rattle.collector.specs.Collector.{nothing, piece_of, taken_in, offered}
+use Rattle.collector.specs.Collector.{nothing, piece_of, taken_in, offered, Offered}
 use Rattle.order.specs.Held.{Four, offer_all, declares, declarations}
 use Rattle.order.specs.Given.{pieces, four, of_pair, of_number, came, Pair, Bounded, or_else, first_of, given, total_given, is_some, full, joined_by, declare_cases, given_with, due_cases, complete_by, completed}
 use Rattle.order.proofs.Keeping.{empty_good}

@@ -17,9 +17,8 @@ use Rattle.frame.proofs.Accepted.{Bounds, bounds}
 use Rattle.collector.specs.declared.Place.{Place}
 use Rattle.collector.specs.declared.Collector.{Collector}
 use Rattle.collector.specs.declared.Piece.{Piece}
-use Rattle.collector.specs.declared.Offered.{Offered}
 use Rattle.collector.specs.Places.{blank, is_pair, pairs_apart, fair, shaped, stored, taken_for, freed}
-use Rattle.collector.specs.Collector.{good, nothing, index_of_pair, its_place, piece_of, put, taken_in, kept, begun, offered, released}
+use Rattle.collector.specs.Collector.{good, nothing, index_of_pair, its_place, piece_of, put, taken_in, kept, begun, offered, released, Offered}
 use Rattle.collector.proofs.Calls.{offer_heading, offer_taken, release_18, release_0}
 use Rattle.collector.proofs.AllPlaces.{good_at, is_held_lem, is_not_held}
 use Rattle.collector.proofs.Marks.{stored_shaped, taken_shaped, freed_shaped, stored_below, taken_below}

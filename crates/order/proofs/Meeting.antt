@@ -15,9 +15,8 @@ use Rattle.frame.proofs.Accepted.{Bounds, bounds}
 use Rattle.collector.specs.declared.Place.{Place}
 use Rattle.collector.specs.declared.Collector.{Collector}
 use Rattle.collector.specs.declared.Piece.{Piece}
-use Rattle.collector.specs.declared.Offered.{Offered}
 use Rattle.collector.specs.Places.{blank, is_pair, contradicts, against, taken_for, stored, whole, state}
-use Rattle.collector.specs.Collector.{is_free, index_of_pair, its_place, piece_of, taken_in, kept, begun, offered}
+use Rattle.collector.specs.Collector.{is_free, index_of_pair, its_place, piece_of, taken_in, kept, begun, offered, Offered}
 use Rattle.collector.proofs.OnePlace.{whole_is, not_whole}
 use Rattle.collector.proofs.AllPlaces.{against_three}
 use Rattle.collector.proofs.Marks.{one_missing}

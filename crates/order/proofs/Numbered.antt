@@ -5,12 +5,10 @@ use mathlib.Core.List.{List, [], ◌∷◌}
 use Prim.Native.Nat.{ℕ}
 use lib.ListN.{length}
 use Rattle.collector.specs.declared.Collector.{Collector}
-use Rattle.collector.specs.declared.Offered.{Offered}
 use Rattle.collector.specs.Places.{Copied}
-use Rattle.collector.specs.declared.Outcome.{Outcome}
 use Rattle.collector.specs.declared.Holdings.{Holdings}
-use Rattle.collector.specs.Collector.{nothing, keeps, offered, released, answered, copied}
-use Rattle.collector.specs.Layout.{tops_clear, as_collector, as_offered, from_collector, from_offered, no_holdings, bad_record, offer_gives, release_gives, copy_gives, copy_leaves}
+use Rattle.collector.specs.Collector.{nothing, keeps, offered, released, answered, copied, Offered}
+use Rattle.collector.specs.Layout.{tops_clear, as_collector, as_offered, from_collector, from_offered, no_holdings, bad_record, offer_gives, release_gives, copy_gives, copy_leaves, Outcome}
 use Rattle.collector.proofs.Seen.{record_back, offer_top, release_top, copy_top, offer_same, release_same, copy_same, empty_seen}
 use Rattle.laws.proofs.Cases.{if_yes, if_no}
 use Rattle.laws.proofs.Elements.{by_test}

@@ -14,8 +14,7 @@ use Rattle.frame.specs.Heading.{refusals, accepted}
 use Rattle.frame.proofs.Accepted.{Bounds, answer_is, bounds}
 use Rattle.collector.specs.declared.Collector.{Collector}
 use Rattle.collector.specs.declared.Piece.{Piece}
-use Rattle.collector.specs.declared.Offered.{Offered}
-use Rattle.collector.specs.Collector.{piece_of, taken_in, offered}
+use Rattle.collector.specs.Collector.{piece_of, taken_in, offered, Offered}
 use Rattle.collector.proofs.Calls.{offer_heading, offer_taken}
 use Rattle.order.specs.Held.{Good, offer_all, take_all}
 use Rattle.order.specs.Given.{pieces, four, of_pair, same_bytes, contradict, Pair, pair_among, Bounded, Rearranged, none_left, one_kept, two_swapped, and_then}

@@ -18,10 +18,9 @@ use Rattle.frame.proofs.Accepted.{Bounds, bounds}
 use Rattle.collector.specs.declared.Place.{Place}
 use Rattle.collector.specs.declared.Collector.{Collector}
 use Rattle.collector.specs.declared.Piece.{Piece}
-use Rattle.collector.specs.declared.Offered.{Offered}
 use Rattle.collector.specs.Whole.{passes}
 use Rattle.collector.specs.Places.{marked, complete, shaped, same_four, contradicts, against, taken_for, stored, joined, whole}
-use Rattle.collector.specs.Collector.{its_place, piece_of, taken_in, offered}
+use Rattle.collector.specs.Collector.{its_place, piece_of, taken_in, offered, Offered}
 use Rattle.collector.proofs.OnePlace.{same_total, new_number, opposed}
 use Rattle.collector.proofs.Marks.{mark_own, mark_other, taken_shaped}
 use Rattle.order.specs.Held.{Good, Four, bytes_at, four_at, held_place, holds_in, total_in, holds, total_held, offer_all, starts_over, clears}

@@ -16,9 +16,8 @@ use Rattle.frame.specs.Heading.{accepted}
 use Rattle.frame.proofs.Accepted.{Bounds, bounds}
 use Rattle.collector.specs.declared.Collector.{Collector}
 use Rattle.collector.specs.declared.Piece.{Piece}
-use Rattle.collector.specs.declared.Offered.{Offered}
 use Rattle.collector.specs.Places.{blank, shaped, against, stored, taken_for}
-use Rattle.collector.specs.Collector.{index_of_pair, its_place, put, piece_of, taken_in, offered}
+use Rattle.collector.specs.Collector.{index_of_pair, its_place, put, piece_of, taken_in, offered, Offered}
 use Rattle.collector.proofs.AllPlaces.{is_held_lem, against_three}
 use Rattle.order.specs.Held.{Good, Stays, Four, four_at, holds_in, total_in, holds, total_held, offer_all, starts_over, clears, uncleared}
 use Rattle.order.specs.Given.{of_pair, of_number, Added}

@@ -18,9 +18,8 @@ use Rattle.frame.proofs.Accepted.{Bounds}
 use Rattle.collector.specs.declared.Place.{Place}
 use Rattle.collector.specs.declared.Collector.{Collector}
 use Rattle.collector.specs.declared.Piece.{Piece}
-use Rattle.collector.specs.declared.Offered.{Offered}
 use Rattle.collector.specs.Places.{blank, is_pair, marked, shaped, same_four, against, stored, taken_for, state}
-use Rattle.collector.specs.Collector.{is_free, index_of_pair, its_place, put, taken_in, kept}
+use Rattle.collector.specs.Collector.{is_free, index_of_pair, its_place, put, taken_in, kept, Offered}
 use Rattle.collector.proofs.OnePlace.{new_number, same_frame}
 use Rattle.collector.proofs.Marks.{stored_shaped, taken_shaped}
 use Rattle.order.specs.Held.{Good, Four, bytes_at, four_at, held_place, holds_in, total_in, holds, total_held}

@@ -24,9 +24,8 @@ use Rattle.frame.proofs.Accepted.{none_refused, some_refused}
 use Rattle.collector.specs.declared.Place.{Place}
 use Rattle.collector.specs.declared.Collector.{Collector}
 use Rattle.collector.specs.declared.Piece.{Piece}
-use Rattle.collector.specs.declared.Offered.{Offered}
 use Rattle.collector.specs.Places.{blank, is_pair, stored, taken_for, freed, copy_answer, copy_bytes}
-use Rattle.collector.specs.Collector.{nothing, good, is_free, is_held, index_of_pair, place_of, its_place, put, piece_of, taken_in, keeps, offer_cases, offered, release_cases, released, copied_cases, answered, copied}
+use Rattle.collector.specs.Collector.{nothing, good, is_free, is_held, index_of_pair, place_of, its_place, put, piece_of, taken_in, keeps, offer_cases, offered, release_cases, released, copied_cases, answered, copied, Offered}
 use Rattle.collector.proofs.Calls.{bad_first, offer_apart, release_apart, copy_apart, release_0}
 use Rattle.collector.proofs.AllPlaces.{is_held_lem, is_not_held, some_free}
 use Rattle.order.specs.Held.{Good, Four, holds, total_held, offer_all, Act, offering, releasing, run}

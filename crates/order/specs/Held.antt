@@ -6,11 +6,10 @@ use Rattle.frame.specs.declared.Number.{Number}
 use Rattle.collector.specs.declared.Place.{Place}
 use Rattle.collector.specs.declared.Collector.{Collector}
 use Rattle.collector.specs.declared.Piece.{Piece}
-use Rattle.collector.specs.declared.Offered.{Offered}
 use Rattle.laws.specs.Scan.{all}
 use Rattle.frame.specs.Heading.{accepted}
 use Rattle.collector.specs.Places.{blank, is_pair, marked, shaped, whole}
-use Rattle.collector.specs.Collector.{good, its_place, contradicted, piece_of, taken_in, offered, released}
+use Rattle.collector.specs.Collector.{good, its_place, contradicted, piece_of, taken_in, offered, released, Offered}
 
 -- a record as the types give it, and that 28 lets by
 pub record Good (c : Collector) : Type 0 where

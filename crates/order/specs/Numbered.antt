@@ -1,8 +1,7 @@
 -- Calls on the record with one number for the marks, one after the other (02, K11).
 use Rattle.std.specs.Prelude.{List, [], ◌∷◌, ℕ}
 use Rattle.collector.specs.declared.Holdings.{Holdings}
-use Rattle.collector.specs.declared.Outcome.{Outcome}
-use Rattle.collector.specs.Layout.{offer_gives, release_gives}
+use Rattle.collector.specs.Layout.{offer_gives, release_gives, Outcome}
 use Rattle.order.specs.Held.{Act, offering, releasing}
 
 -- what an offer or a release answers and leaves

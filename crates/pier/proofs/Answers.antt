@@ -19,9 +19,8 @@ use Rattle.promises.proofs.Answers.{exactly}
 use Rattle.promises.proofs.Single.{one_outcome}
 use Rattle.collector.specs.declared.Holding.{Holding}
 use Rattle.collector.specs.declared.Holdings.{Holdings}
-use Rattle.collector.specs.declared.Outcome.{Outcome}
 use Rattle.collector.specs.Collector.{is_held, piece_of, its_place, take_cases as offer_takes}
-use Rattle.collector.specs.Layout.{as_place, as_collector, blank_holding, made_free, offer_due, offer_gives}
+use Rattle.collector.specs.Layout.{as_place, as_collector, blank_holding, made_free, offer_due, offer_gives, Outcome}
 use Rattle.collector.proofs.Seen.{offer_answer, offer_apart}
 use Rattle.stories.specs.declared.Stories.{Stories}
 use Rattle.stories.specs.Stories.{take_cases, take_answer, taken_by, taken_in}

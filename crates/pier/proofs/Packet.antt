@@ -21,12 +21,10 @@ use Rattle.air.specs.OnAir.{frames_for, total_for, heading_for, frames_of, aired
 use Rattle.collector.specs.declared.Place.{Place}
 use Rattle.collector.specs.declared.Collector.{Collector}
 use Rattle.collector.specs.declared.Piece.{Piece}
-use Rattle.collector.specs.declared.Offered.{Offered}
 use Rattle.collector.specs.declared.Holdings.{Holdings}
-use Rattle.collector.specs.declared.Outcome.{Outcome}
 use Rattle.collector.specs.Places.{is_pair, Copied}
-use Rattle.collector.specs.Collector.{nothing, is_free, released, answered, copied}
-use Rattle.collector.specs.Layout.{tops_clear, as_collector, offer_gives, release_gives, copy_gives, copy_leaves}
+use Rattle.collector.specs.Collector.{nothing, is_free, released, answered, copied, Offered}
+use Rattle.collector.specs.Layout.{tops_clear, as_collector, offer_gives, release_gives, copy_gives, copy_leaves, Outcome}
 use Rattle.collector.proofs.Seen.{offer_same, release_same}
 use Rattle.order.specs.Numbered.{offer_all_to}
 use Rattle.order.proofs.Numbered.{same_as_marks, offers_carried}

@@ -24,7 +24,6 @@ use Rattle.air.specs.OnAir.{frames_for, total_for, with_check, carried, frames_f
 use Rattle.collector.specs.declared.Place.{Place}
 use Rattle.collector.specs.declared.Collector.{Collector}
 use Rattle.collector.specs.declared.Piece.{Piece}
-use Rattle.collector.specs.declared.Offered.{Offered}
 use Rattle.collector.specs.declared.Holdings.{Holdings}
 use Rattle.collector.specs.Layout.{tops_clear, as_collector, no_holdings, offer_gives, copy_gives, copy_leaves}
 use Rattle.collector.proofs.Seen.{offer_same, copy_same, empty_seen}
@@ -33,7 +32,7 @@ use Rattle.order.proofs.Numbered.{offers_carried}
 use Rattle.size.specs.Size.{packet_size}
 use Rattle.collector.specs.Whole.{passes}
 use Rattle.collector.specs.Places.{is_pair, complete, joined, whole, copy_cases, copy_answer, copy_bytes}
-use Rattle.collector.specs.Collector.{nothing, index_of_pair, place_of, piece_of, offered, answered, copied}
+use Rattle.collector.specs.Collector.{nothing, index_of_pair, place_of, piece_of, offered, answered, copied, Offered}
 use Rattle.collector.proofs.Calls.{copy_held}
 use Rattle.order.specs.Held.{Good, Four, four_at, held_place, holds_in, total_in, holds, total_held, offer_all}
 use Rattle.order.specs.Given.{pieces, four, Bounded, given, total_given, is_some, full, joined_to, bytes_of, declare_cases, due_cases, due}

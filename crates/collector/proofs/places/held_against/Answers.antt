@@ -15,6 +15,6 @@ returns-then-not-is_marked c = sym (new_number _ _ c.if-p-x.false (sym c.is_mark
 pub returns-then-same_four : goal.returns-then-same_four
 returns-then-same_four c = sym (same_frame _ _ c.if-p-x.false (sym c.is_marked.ensures ∙ not-false _ (ap not c.if-not-is_marked.false)) (sym c.same_four.ensures ∙ c.if-same_four.true))
 
-pub returns-else-same_four : goal.returns-else-same_four
-returns-else-same_four c = c.contradiction-else-same_four.ensures
+pub returns : goal.returns
+returns c = c.contradiction-2.ensures
     ∙ sym (other_bytes _ _ c.if-p-x.false (sym c.is_marked.ensures ∙ not-false _ (ap not c.if-not-is_marked.false)) (sym c.same_four.ensures ∙ c.if-same_four.false))
