@@ -80,34 +80,34 @@ fn fields_fine(c: Command) -> bool
 }
 
 // What the lines of a command whose length is right are due: 24, 25 or 27.
-fn lines_answer(b: &[u8]) -> u8
-    ensures { result ≡ first (drop 3 (read_cases b.now)) }
+fn lines_answer(b: &[u8]) -> Result<(), Refusal>
+    ensures { answer_of result ≡ first (drop 3 (read_cases b.now)) }
 {
     let l = parts::laid_in(b);
     if !codes_fine(24, b, l.place, l.codes) {
-        return 24;
+        return Err(Refusal::ReservedBit);
     }
     if !codes_fine(25, b, l.place, l.codes) {
-        return 25;
+        return Err(Refusal::Digit);
     }
     if !fields_fine(parts::command(b)) {
-        return 27;
+        return Err(Refusal::Range);
     }
-    0
+    Ok(())
 }
 
 // The reader's answer.
-pub(crate) fn answer(b: &[u8]) -> u8
-    ensures { result ≡ read_answer b.now }
+pub(crate) fn answer(b: &[u8]) -> Result<(), Refusal>
+    ensures { answer_of result ≡ read_answer b.now }
 {
     if b.len() < 3 {
-        return 26;
+        return Err(Refusal::Length);
     }
     if parts::tag_of(parts::kind(b)) == 0 {
-        return 39;
+        return Err(Refusal::Tag);
     }
     if length_bad(b) {
-        return 26;
+        return Err(Refusal::Length);
     }
     lines_answer(b)
 }
