@@ -18,6 +18,7 @@ pub enum Kind {
     Clock,
     Resource,
     Lock,
+    // No Option, since Command::Unknown has a kind and the papers' table a row for it.
     Unknown,
 }
 
@@ -39,6 +40,7 @@ pub enum Command {
         khz: u32,
         count: usize,
     },
+    // No Option, since the papers let a writer be given it: its answer 39.
     Unknown,
 }
 
