@@ -8,7 +8,7 @@ ghost use Rattle.std.specs.Prelude.{◌≤◌};
 
 use crate::{input, reading, say, writing};
 use refusal::Refusal;
-use sister::{Command, Opened};
+use sister::Command;
 use std::io;
 
 fn command(rt: &impl Print, c: Command) -> io::Result<()> {
@@ -72,17 +72,21 @@ fn memory(rt: &impl Print, outcome: Result<usize, Refusal>, lent: &[u8]) -> io::
 }
 
 // All that was read. Beside a refusal it should be nothing.
-fn shown(rt: &impl Print, o: Opened, address: &[u8]) -> io::Result<()> {
-    let c = o.command;
-    let codes = o.codes;
+fn shown(
+    rt: &impl Print,
+    answer: u8,
+    c: Command,
+    codes: &[u8],
+    address: &[u8],
+) -> io::Result<()> {
     let n = codes_length(c);
-    say::one(rt, b"decode", o.answer as u64)?;
+    say::one(rt, b"decode", answer as u64)?;
     command(rt, c)?;
     say::text(rt, b"\naddress")?;
     say::hex(rt, address)?;
     say::text(rt, b"\ncodes")?;
-    all_digits(rt, octets::part(&codes, 0, n))?;
-    if !say::all(octets::part(&codes, n, 5865), 0) {
+    all_digits(rt, octets::part(codes, 0, n))?;
+    if !say::all(octets::part(codes, n, 5865), 0) {
         say::text(rt, b"\na code past the last")?;
     }
     say::text(rt, b"\n")
@@ -98,10 +102,8 @@ fn carried(rt: &impl Print, c: Command, codes: &[u8]) -> io::Result<()> {
     say::text(rt, b"\n")
 }
 
-fn back(rt: &impl Print, o: Opened, address: &[u8]) -> io::Result<()> {
-    let c = o.command;
-    let codes = o.codes;
-    let lent = octets::part(&codes, 0, codes_length(c));
+fn back(rt: &impl Print, c: Command, codes: &[u8], address: &[u8]) -> io::Result<()> {
+    let lent = octets::part(codes, 0, codes_length(c));
     carried(rt, c, lent)?;
     encoded(rt, c, address, lent, 3200)
 }
@@ -109,12 +111,13 @@ fn back(rt: &impl Print, o: Opened, address: &[u8]) -> io::Result<()> {
 pub(crate) fn read(rt: &impl Print, b: &[u8]) -> io::Result<()> {
     let bytes = octets::part(b, 3, 65536);
     let address = sister::address(bytes);
-    let o = sister::read(bytes);
-    shown(rt, o, address)?;
-    if o.answer == 0 {
-        back(rt, o, address)?;
+    match sister::read(bytes) {
+        Ok(o) => {
+            shown(rt, 0, o.command, &o.codes, address)?;
+            back(rt, o.command, &o.codes, address)
+        }
+        Err(refusal) => shown(rt, refusal.number(), Command::Unknown, &[], address),
     }
-    Ok(())
 }
 
 fn given(b: &[u8]) -> Command {

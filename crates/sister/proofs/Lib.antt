@@ -7,3 +7,4 @@ pub mod Found
 pub mod Put
 pub mod Says
 pub mod Exact
+pub mod Told

@@ -4,9 +4,8 @@ use Rattle.laws.specs.Bits.{Under}
 use Rattle.format.specs.Format.{fill, fine}
 use Rattle.packet.specs.Reading.{padded}
 use Rattle.sister.specs.declared.Command.{Command}
-use Rattle.sister.specs.declared.Opened.{Opened}
 use Rattle.sister.specs.Table.{row_for, code_count, parts_of, kind_for, count_for}
-use Rattle.sister.specs.Reading.{opened, address_of}
+use Rattle.sister.specs.Reading.{Opened, opened, address_of}
 use Rattle.sister.specs.Writing.{written, command_output}
 
 -- the numbers of lines that no answer is about, a year and kHz, have the bits of their lines, as their types u16 and u32 have (ours: the compiler gives it)

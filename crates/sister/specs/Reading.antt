@@ -1,15 +1,17 @@
 -- What a command's bytes say, and what a reader answers (003, 9.2; paper 02, K14).
-use Rattle.std.specs.Prelude.{ℕ, zero, suc, ◌+◌, List, [], ◌∷◌, Bool, not, ◌&&◌, ◌||◌, length, drop, ltb, eqb}
+use Rattle.std.specs.Prelude.{ℕ, zero, suc, ◌+◌, List, [], ◌∷◌, Bool, not, ◌&&◌, ◌||◌, length, drop, ltb, eqb, Result, Ok, Err}
 use Rattle.laws.specs.Bits.{at, bits}
 use Rattle.laws.specs.Refusals.{Case, first}
 use Rattle.format.specs.declared.Line.{Line}
 use Rattle.format.specs.Format.{need, decode, flat, fine}
+use Rattle.refusal.specs.declared.Refusal.{Refusal}
+use Rattle.refusal.specs.Refusal.{number_of}
 use Rattle.packet.specs.Table.{count_in}
 use Rattle.packet.specs.Reading.{zeros, padded, part_by}
 use Rattle.sister.specs.declared.Kind.{Kind}
 use Rattle.sister.specs.declared.Command.{Command}
 use Rattle.sister.specs.declared.Command.TheVariants as command
-use Rattle.sister.specs.declared.Opened.{Opened}
+use Rattle.sister.specs.declared.Opened as given
 use Rattle.sister.specs.Table.{kind_of, is_unknown_kind, row_for, content_bytes, command_lines, address_count, command_of, no_day}
 
 -- ---- tag and length (003, table 8)
@@ -72,7 +74,14 @@ read_cases b =
 unfoldable pub read_answer : List ℕ → ℕ
 read_answer b = first (read_cases b)
 
--- ---- what is opened; beside a refusal no command, and zeros (01, Numbers given back)
+-- ---- what is opened
+-- a number given back, a command and its codes
+pub record Opened : Type 0 where
+  pub answer : ℕ
+  pub command : Command
+  pub codes : List ℕ
+
+-- beside a refusal no command, and zeros (01, Numbers given back)
 abbrev pub refused_as : ℕ → Opened
 refused_as a = record { answer = a; command = command.Unknown; codes = zeros 5865 }
 
@@ -81,7 +90,12 @@ abbrev pub opened_by : ℕ → List ℕ → Opened
 opened_by zero b = record { answer = 0; command = command_in b; codes = padded 5865 (codes_in b) }
 opened_by (suc a) b = refused_as (suc a)
 
--- what `read` gives
+-- the three that a result tells
+abbrev pub read_told : Result given.Opened Refusal → Opened
+read_told (Ok o) = record { answer = 0; command = o.command; codes = o.codes }
+read_told (Err e) = refused_as (number_of e)
+
+-- what is told of what `read` gives
 unfoldable pub opened : List ℕ → Opened
 opened b = opened_by (read_answer b) b
 

@@ -3,7 +3,7 @@ ghost use Rattle.std.specs.Prelude.{◌≡◌, false, ◌<◌, ◌≤◌, drop};
 ghost use Rattle.laws.specs.Bits.{bits};
 ghost use Rattle.laws.specs.Refusals.{first};
 ghost use Rattle.format.specs.Format.{times, decode, fine, inside};
-ghost use Rattle.refusal.specs.Refusal.{answer_of};
+ghost use Rattle.refusal.specs.Refusal.{number_of, answer_of};
 ghost use Rattle.packet.specs.Table.{code};
 ghost use Rattle.sister.specs.Reading.{length_bad, read_cases, read_answer};
 ghost use Rattle.sister.specs.Writing.{count_bad, write_cases, written_answer};
@@ -24,24 +24,24 @@ fn length_bad(b: &[u8]) -> bool
     b.len() != 3 + n || n != parts::laid_in(b).bytes
 }
 
-// No line of the code from bit p on is due the answer.
-fn code_fine(answer: u8, b: &[u8], p: usize) -> bool
+// No line of the code from bit p on is due the refusal.
+fn code_fine(refusal: Refusal, b: &[u8], p: usize) -> bool
     requires { p < 60000 }
-    ensures { result ≡ fine answer code (decode code (bits b.now) p) }
+    ensures { result ≡ fine (number_of refusal) code (decode code (bits b.now) p) }
 {
-    match answer {
-        24 => format::ranged(b, p, 1, 4, 15, 15),
-        25 => format::ranged(b, p + 4, 23, 4, 0, 9),
+    match refusal {
+        Refusal::ReservedBit => format::ranged(b, p, 1, 4, 15, 15),
+        Refusal::Digit => format::ranged(b, p + 4, 23, 4, 0, 9),
         _ => true,
     }
 }
 
 // The same of n codes.
-fn codes_fine(answer: u8, b: &[u8], p: usize, n: usize) -> bool
+fn codes_fine(refusal: Refusal, b: &[u8], p: usize, n: usize) -> bool
     requires { (p < 30000) × (n ≤ 255) }
-    ensures { result ≡ fine answer (times n code) (decode (times n code) (bits b.now) p) }
+    ensures { result ≡ fine (number_of refusal) (times n code) (decode (times n code) (bits b.now) p) }
 {
-    (0..n).all(|j| code_fine(answer, b, p + j * 96))
+    (0..n).all(|j| code_fine(refusal, b, p + j * 96))
 }
 
 // The fields of a command are in their ranges, and its day is one that the month has.
@@ -80,34 +80,34 @@ fn fields_fine(c: Command) -> bool
 }
 
 // What the lines of a command whose length is right are due: 24, 25 or 27.
-fn lines_answer(b: &[u8]) -> u8
-    ensures { result ≡ first (drop 3 (read_cases b.now)) }
+fn lines_answer(b: &[u8]) -> Result<(), Refusal>
+    ensures { answer_of result ≡ first (drop 3 (read_cases b.now)) }
 {
     let l = parts::laid_in(b);
-    if !codes_fine(24, b, l.place, l.codes) {
-        return 24;
+    if !codes_fine(Refusal::ReservedBit, b, l.place, l.codes) {
+        return Err(Refusal::ReservedBit);
     }
-    if !codes_fine(25, b, l.place, l.codes) {
-        return 25;
+    if !codes_fine(Refusal::Digit, b, l.place, l.codes) {
+        return Err(Refusal::Digit);
     }
     if !fields_fine(parts::command(b)) {
-        return 27;
+        return Err(Refusal::Range);
     }
-    0
+    Ok(())
 }
 
 // The reader's answer.
-pub(crate) fn answer(b: &[u8]) -> u8
-    ensures { result ≡ read_answer b.now }
+pub(crate) fn answer(b: &[u8]) -> Result<(), Refusal>
+    ensures { answer_of result ≡ read_answer b.now }
 {
     if b.len() < 3 {
-        return 26;
+        return Err(Refusal::Length);
     }
     if parts::tag_of(parts::kind(b)) == 0 {
-        return 39;
+        return Err(Refusal::Tag);
     }
     if length_bad(b) {
-        return 26;
+        return Err(Refusal::Length);
     }
     lines_answer(b)
 }

@@ -7,7 +7,7 @@ mod puts;
 
 ghost use Rattle.std.specs.Prelude.{◌≡◌, length};
 ghost use Rattle.packet.specs.Writing.{told};
-ghost use Rattle.sister.specs.Reading.{opened, address_of};
+ghost use Rattle.sister.specs.Reading.{read_told, opened, address_of};
 ghost use Rattle.sister.specs.Writing.{written, command_output};
 
 use refusal::Refusal;
@@ -18,10 +18,11 @@ pub enum Kind {
     Clock,
     Resource,
     Lock,
+    // No Option, since Command::Unknown has a kind and the papers' table a row for it.
     Unknown,
 }
 
-// A command. Its address and the digits of its codes are lent beside it; Unknown stands beside a refusal, and is none.
+// A command. Its address and the digits of its codes are lent beside it; Unknown is none.
 #[derive(Clone, Copy)]
 pub enum Command {
     Clock {
@@ -39,44 +40,33 @@ pub enum Command {
         khz: u32,
         count: usize,
     },
+    // No Option, since the papers let a writer be given it: its answer 39.
     Unknown,
 }
 
 // What a command says: 23 digits a code, 0 past the last.
 #[derive(Clone, Copy)]
 pub struct Opened {
-    pub answer: u8,
     pub command: Command,
     pub codes: [u8; 5865],
 }
 
 // What the bytes of a command say, and 26, 39, 24, 25 or 27 where they are none.
-pub fn read(command: &[u8]) -> Opened
-    ensures { result ≡ opened command.now }
+pub fn read(command: &[u8]) -> Result<Opened, Refusal>
+    ensures { read_told result ≡ opened command.now }
 {
-    let a = judge::answer(command);
-    if a == 0 {
-        let codes = parts::codes(command);
-        Opened {
-            answer: 0,
-            command: parts::command(command),
-            codes,
-        }
-    } else {
-        let codes = parts::zeros5865();
-        Opened {
-            answer: a,
-            command: Command::Unknown,
-            codes,
-        }
-    }
+    judge::answer(command)?;
+    Ok(Opened {
+        command: parts::command(command),
+        codes: parts::codes(command),
+    })
 }
 
 // The address of a resource command; empty where there is none.
 pub fn address(command: &[u8]) -> &[u8]
     ensures { result.now ≡ address_of command.now }
 {
-    if judge::answer(command) == 0 {
+    if judge::answer(command).is_ok() {
         let l = parts::laid_in(command);
         octets::part(command, 4, l.address)
     } else {

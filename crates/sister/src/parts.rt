@@ -1,7 +1,7 @@
 // The parts of a command: its kind and count, where its codes stand, and what is read of it.
 ghost use Rattle.std.specs.Prelude.{◌≡◌, ◌*◌, ◌<◌, ◌≤◌};
 ghost use Rattle.laws.specs.Bits.{at, bits};
-ghost use Rattle.packet.specs.Reading.{zeros, padded};
+ghost use Rattle.packet.specs.Reading.{padded};
 ghost use Rattle.sister.specs.Table.{tag_of};
 ghost use Rattle.sister.specs.Reading.{kind_in, count_of, command_in, codes_in};
 ghost use Rattle.sister.specs.Layout.{layout_of, clock_at};
@@ -29,12 +29,6 @@ pub(crate) fn medium(b: &[u8], p: usize) -> u16
     ensures { result ≡ at (bits b.now) p 16 }
 {
     format::field(b, p, 16) as u16
-}
-
-pub(crate) fn zeros5865() -> [u8; 5865]
-    ensures { result ≡ zeros 5865 }
-{
-    [0u8; 5865]
 }
 
 pub(crate) fn kind(b: &[u8]) -> Kind
@@ -142,7 +136,7 @@ pub(crate) fn codes(b: &[u8]) -> [u8; 5865]
     ensures { result ≡ padded 5865 (codes_in b.now) }
 {
     let l = laid_in(b);
-    let mut out = zeros5865();
+    let mut out = [0u8; 5865];
     for j in 0..l.codes {
         format::fields(b, l.place + 96 * j + 4, 23, 4, &mut out, 23 * j);
     }

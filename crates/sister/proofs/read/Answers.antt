@@ -1,17 +1,18 @@
 -- `sister::read`: what its goals need. Assumes nothing.
-use mathlib.Core.Path.{◌≡◌, sym, ap, ◌∙◌}
-use Rattle.sister.specs.Reading.{read_answer, opened, refused_as}
+use mathlib.Core.Path.{sym, ap, ◌∙◌}
+use Rattle.std.proofs.lemmas.Result.{err_from_is_err_and}
+use Rattle.refusal.proofs.Numbers.{some_number}
+use Rattle.sister.specs.Reading.{opened, refused_as}
 use Rattle.sister.proofs.Says.{not_opened}
 use Rattle.sister.proofs.read.Goals as goal
 
-pub returns-then-a-eq0 : goal.returns-then-a-eq0
+pub returns-in_err-answer : goal.returns-in_err-answer
 unfolding opened
-returns-then-a-eq0 c = let b = c.args.command.now in
-    let e : read_answer b ≡ 0 = sym c.answer-a.ensures ∙ c.if-a-eq0.true in
-    rw (e, c.codes-codes.ensures, c.command.ensures)
+returns-in_err-answer c =
+    let p = err_from_is_err_and c.from_residual.result c.from_residual.ensures.1 in
+    let e = c.in_err-answer.ensures in
+    rw (p.1, p.2) (ap refused_as e ∙ sym (not_opened _ c.args.command.now (λ h. some_number c.in_err-answer.field-0.0 (e ∙ h))))
 
-pub returns-else-a-eq0 : goal.returns-else-a-eq0
+pub returns : goal.returns
 unfolding opened
-returns-else-a-eq0 c = let b = c.args.command.now in
-    let e = c.answer-a.ensures in
-    rw c.zeros5865-codes.ensures (ap refused_as e ∙ sym (not_opened (read_answer b) b (λ h. c.if-a-eq0.false (e ∙ h))))
+returns c = rw (← c.in_ok-answer.ensures, c.codes.ensures, c.command.ensures)

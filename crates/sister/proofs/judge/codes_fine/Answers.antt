@@ -9,6 +9,7 @@ use Rattle.std.proofs.lemmas.Iterator.{YieldsList-from_range}
 use Rattle.std.proofs.lemmas.Iterator.Search.{all_from_yields_List}
 use Rattle.laws.specs.Bits.{bits}
 use Rattle.format.specs.Format.{size, fine, decode}
+use Rattle.refusal.specs.Refusal.{number_of}
 use Rattle.packet.specs.Table.{code}
 use Rattle.packet.proofs.Columns.{every_range, fine_rows}
 use Rattle.sister.proofs.judge.codes_fine.Goals as goal
@@ -16,7 +17,7 @@ use Rattle.sister.proofs.judge.codes_fine.Goals as goal
 pub returns : goal.returns
 unfolding size
 returns c = let a = c.args in
-    let F : ℕ → Bool = λ j. fine a.answer code (decode code (bits a.b.now) (a.p + j * 96)) in
+    let F : ℕ → Bool = λ j. fine (number_of a.refusal) code (decode code (bits a.b.now) (a.p + j * 96)) in
     all_from_yields_List F _ _ _ c.all.ensures.ran (YieldsList-from_range 0 a.n a.n (search rules) (omega arith)) (λ x r q k. search (rules, tests))
     ∙ sym (every_range a.n F)
-    ∙ sym (fine_rows a.answer a.n code (bits a.b.now) a.p)
+    ∙ sym (fine_rows (number_of a.refusal) a.n code (bits a.b.now) a.p)

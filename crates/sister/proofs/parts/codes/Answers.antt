@@ -9,7 +9,7 @@ use Rattle.laws.specs.Bits.{run, bits}
 use Rattle.laws.proofs.Bits.{length_run}
 use Rattle.format.specs.Format.{times}
 use Rattle.packet.specs.Table.{code}
-use Rattle.packet.specs.Reading.{numbers_at}
+use Rattle.packet.specs.Reading.{numbers_at, zeros}
 use Rattle.sister.specs.declared.parts.Layout.{Layout}
 use Rattle.sister.specs.Layout.{layout_of}
 use Rattle.sister.specs.Reading.{kind_in, count_of}
@@ -47,7 +47,8 @@ loop-j-preserved c = let b = c.args.b.now in
     ∙ ap₂ (λ (u v : ℕ). sets c.fields.new.out u (numbers_at (times (l.result.codes - (k.j + 1)) code) b v)) (omega arith) (omega arith)
 
 pub returns : goal.returns
+unfolding zeros
 returns c = let b = c.args.b.now in
     let k = c.loop-j in
     found.codes_end b k.out _ _ k.j (c.laid_in-l.result.place + 96 * k.j) (23 * k.j) (omega arith) k.invariant
-    ∙ found.codes_padded b c.laid_in-l.result c.zeros5865-out.result c.laid_in-l.ensures c.zeros5865-out.ensures
+    ∙ found.codes_padded b c.laid_in-l.result _ c.laid_in-l.ensures refl
