@@ -103,20 +103,20 @@ fn written(rt: &impl Print, f: Fields, codes: &[u8], body: &[u8]) -> io::Result<
 }
 
 fn text_and_body(rt: &impl Print, packet: &[u8]) -> io::Result<()> {
-    say::one(rt, b"\ntext", reader::text_answer(packet) as u64)?;
+    say::one(rt, b"\ntext", say::answer(reader::text_answer(packet)))?;
     say::hex(rt, reader::text(packet))?;
     say::text(rt, b"\nbody")?;
     say::hex(rt, reader::body(packet))?;
     say::text(rt, b"\n")
 }
 
-// All that was read. Beside a refusal it should be nothing.
-fn shown(rt: &impl Print, o: Opened) -> io::Result<()> {
+// The number that is given back, and all that was read.
+fn shown(rt: &impl Print, answer: u8, o: Opened) -> io::Result<()> {
     let f = o.fields;
     let codes = o.codes;
     let entries = o.entries;
     let c = f.content;
-    say::one(rt, b"read", o.answer as u64)?;
+    say::one(rt, b"read", answer.into())?;
     say::text(rt, b"\n")?;
     first_fields(rt, f)?;
     last_fields(rt, f)?;
@@ -149,14 +149,35 @@ fn back(rt: &impl Print, o: Opened, packet: &[u8]) -> io::Result<()> {
     }
 }
 
+// What stands beside a refusal.
+fn nothing() -> Opened {
+    Opened {
+        fields: Fields {
+            typenumber: 0,
+            codes: 0,
+            content: Content::Raw,
+            digits: [0; 35],
+            time: 0,
+            certificate: [0; 12],
+            signature: [0; 64],
+        },
+        codes: [0; 322],
+        entries: [0; 272],
+    }
+}
+
 // A whole record.
 pub(crate) fn record(rt: &impl Print, b: &[u8]) -> io::Result<()> {
     let packet = octets::part(b, 3, 65536);
-    let o = reader::read(packet);
-    shown(rt, o)?;
-    text_and_body(rt, packet)?;
-    if o.answer == 0 {
-        back(rt, o, packet)?;
+    match reader::read(packet) {
+        Ok(o) => {
+            shown(rt, 0, o)?;
+            text_and_body(rt, packet)?;
+            back(rt, o, packet)
+        }
+        Err(refusal) => {
+            shown(rt, refusal.number(), nothing())?;
+            text_and_body(rt, packet)
+        }
     }
-    Ok(())
 }

@@ -77,6 +77,14 @@ pub(crate) fn memory(rt: &impl Print, lent: &[u8], written: usize) -> io::Result
     }
 }
 
+// The number that a result tells.
+pub(crate) fn answer(outcome: Result<(), Refusal>) -> u64 {
+    match outcome {
+        Ok(()) => 0,
+        Err(refusal) => refusal.number().into(),
+    }
+}
+
 // The number that a result tells and its count, 0 beside a refusal.
 pub(crate) fn told(outcome: Result<usize, Refusal>) -> (u8, usize) {
     match outcome {

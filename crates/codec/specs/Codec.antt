@@ -2,12 +2,12 @@
 use Rattle.std.specs.Prelude.{List, ℕ}
 use Rattle.packet.specs.declared.Content.{Content}
 use Rattle.packet.specs.declared.Fields.{Fields}
-use Rattle.packet.specs.declared.Opened.{Opened}
 use Rattle.packet.specs.Writing.{Written}
 use Rattle.packet.specs.Table.{kind_of, type_of}
 use Rattle.packet.specs.Content.{parts_of, kind_for, numbers_of}
-use Rattle.packet.specs.Reading.{padded}
+use Rattle.packet.specs.Reading.{Opened, padded}
 use Rattle.packet.specs.InCode.{named_by}
+use Rattle.reader.specs.Taking.{Answered, told_of}
 use Rattle.codec.specs.declared.PlainContent.{PlainContent}
 use Rattle.codec.specs.declared.PlainFields.{PlainFields}
 use Rattle.codec.specs.declared.PlainTold.{PlainTold}
@@ -17,13 +17,17 @@ use Rattle.codec.specs.declared.PlainWritten.{PlainWritten}
 abbrev pub content_told : Content → PlainContent
 content_told c = record { kind = type_of (kind_for c); numbers = padded 6 (numbers_of c); count = (parts_of c).count }
 
+-- what is told, with such a content
+abbrev pub plain : Answered → PlainTold
+plain t =
+    record {
+      answer = t.answer;
+      fields = record { typenumber = t.typenumber; codes = t.codes; content = content_told t.content; time = t.time; certificate = t.certificate; signature = t.signature };
+    }
+
 -- what is opened, but for what goes to arrays: codes, entries, the digits beside the content
 abbrev pub told_as : Opened → PlainTold
-told_as o =
-    record {
-      answer = o.answer;
-      fields = record { typenumber = o.fields.typenumber; codes = o.fields.codes; content = content_told o.fields.content; time = o.fields.time; certificate = o.fields.certificate; signature = o.fields.signature };
-    }
+told_as o = plain (told_of o)
 
 -- and back; any other kind is raw, and a number that is too large keeps the low bytes that its field has
 abbrev pub content_from : PlainContent → Content

@@ -2,12 +2,13 @@
 #![tactic(auto)]
 
 ghost use Rattle.std.specs.Prelude.{◌≡◌, length};
-ghost use Rattle.packet.specs.Reading.{opened};
+ghost use Rattle.packet.specs.Reading.{refused_as, opened};
 ghost use Rattle.packet.specs.Writing.{written, packet_output};
-ghost use Rattle.reader.specs.Taking.{unless_refused};
-ghost use Rattle.codec.specs.Codec.{content_told, told_as, content_from, fields_from, written_as};
+ghost use Rattle.reader.specs.Taking.{told_of, accepted_as, unless_refused};
+ghost use Rattle.codec.specs.Codec.{content_told, plain, told_as, content_from, fields_from, written_as};
 
 use packet::{Content, Fields};
+use reader::Told;
 
 // A content: the type that names its kind, 4 for a raw one; its numbers in the order of its lines, then zeros; its count.
 #[repr(C)]
@@ -58,6 +59,41 @@ fn content_told(c: Content) -> PlainContent
     }
 }
 
+fn accepted(t: Told) -> PlainTold
+    ensures { result ≡ plain (accepted_as t) }
+{
+    let certificate = t.certificate;
+    let signature = t.signature;
+    PlainTold {
+        answer: 0,
+        fields: PlainFields {
+            typenumber: t.typenumber,
+            codes: t.codes,
+            content: content_told(t.content),
+            time: t.time,
+            certificate,
+            signature,
+        },
+    }
+}
+
+// Beside a refusal all is zero, the content raw.
+fn refused(answer: u8) -> PlainTold
+    ensures { result ≡ plain (told_of (refused_as answer)) }
+{
+    PlainTold {
+        answer,
+        fields: PlainFields {
+            typenumber: 0,
+            codes: 0,
+            content: content_told(Content::Raw),
+            time: 0,
+            certificate: [0; 12],
+            signature: [0; 64],
+        },
+    }
+}
+
 // What a packet says, as `reader::read` does; its codes, its entries and the digits beside its content in what is lent,
 // which stays as it was where the packet is refused.
 pub fn codec_read(
@@ -71,20 +107,9 @@ pub fn codec_read(
     ensures listed { entries.new ≡ unless_refused (opened packet.now) (opened packet.now).entries entries.old }
     ensures beside { digits.new ≡ unless_refused (opened packet.now) (opened packet.now).fields.digits digits.old }
 {
-    let t = reader::read_to(packet, codes, entries, digits);
-    let certificate = t.certificate;
-    let signature = t.signature;
-    let fields = PlainFields {
-        typenumber: t.typenumber,
-        codes: t.codes,
-        content: content_told(t.content),
-        time: t.time,
-        certificate,
-        signature,
-    };
-    PlainTold {
-        answer: t.answer,
-        fields,
+    match reader::read_to(packet, codes, entries, digits) {
+        Ok(t) => accepted(t),
+        Err(refusal) => refused(refusal.number()),
     }
 }
 

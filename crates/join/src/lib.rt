@@ -13,7 +13,7 @@ use refusal::Refusal;
 pub fn is_part(packet: &[u8]) -> bool
     ensures { result ≡ is_part packet.now }
 {
-    if reader::text_answer(packet) != 0 {
+    if reader::text_answer(packet).is_err() {
         return false;
     }
     let n = format::field(packet, 16, 8) as usize;

@@ -1,5 +1,5 @@
 -- What a packet's bytes say, and what a reader answers (paper 01, "Packet" and "Numbers given back", Reader).
-use Rattle.std.specs.Prelude.{ℕ, zero, suc, ◌+◌, ◌-◌, ◌*◌, ◌/◌, List, [], ◌∷◌, ◌++◌, Bool, true, false, not, ◌&&◌, ◌||◌, cond, length, replicate, take, drop, leb, ltb, eqb}
+use Rattle.std.specs.Prelude.{Result, Ok, Err, ℕ, zero, suc, ◌+◌, ◌-◌, ◌*◌, ◌/◌, List, [], ◌∷◌, ◌++◌, Bool, true, false, not, ◌&&◌, ◌||◌, cond, length, replicate, take, drop, leb, ltb, eqb}
 use Rattle.std.proofs.lemmas.List.Edits.{sets}
 use Rattle.laws.specs.Bits.{at, run, bits}
 use Rattle.laws.specs.Refusals.{Case, first}
@@ -12,7 +12,9 @@ use Rattle.packet.specs.declared.Counting.TheVariants as counting
 use Rattle.packet.specs.declared.Content.{Content}
 use Rattle.packet.specs.declared.Content.TheVariants as content
 use Rattle.packet.specs.declared.Fields.{Fields}
-use Rattle.packet.specs.declared.Opened.{Opened}
+use Rattle.packet.specs.declared.Opened as code
+use Rattle.refusal.specs.declared.Refusal.{Refusal}
+use Rattle.refusal.specs.Refusal.{number_of}
 use Rattle.packet.specs.declared.Sizes.{Sizes}
 use Rattle.packet.specs.Table.{kind_of, content_bytes, Row, row_of, count_line, code, packet, count_in}
 use Rattle.packet.specs.Content.{content_of, numbers_in, no_such_day}
@@ -180,9 +182,21 @@ unfoldable pub no_fields : Fields
 no_fields =
     record { typenumber = 0; codes = 0; content = content.Raw; digits = zeros 35; time = 0; certificate = zeros 12; signature = zeros 64 }
 
+-- a number given back, and what is opened beside it
+pub record Opened : Type 0 where
+  pub answer : ℕ
+  pub fields : Fields
+  pub codes : List ℕ
+  pub entries : List ℕ
+
 -- a number and nothing beside it
 abbrev pub refused_as : ℕ → Opened
 refused_as a = record { answer = a; fields = no_fields; codes = zeros 322; entries = zeros 272 }
+
+-- both, as a result tells them
+abbrev pub opened_told : Result code.Opened Refusal → Opened
+opened_told (Ok o) = record { answer = 0; fields = o.fields; codes = o.codes; entries = o.entries }
+opened_told (Err e) = refused_as (number_of e)
 
 -- all that is opened beside 0
 abbrev pub opened_by : ℕ → List ℕ → Opened

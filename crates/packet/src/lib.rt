@@ -125,7 +125,6 @@ pub struct Fields {
 // What a packet says: 23 digits a code, and for frequencies eight numbers an entry; 0 past the last.
 #[derive(Clone, Copy)]
 pub struct Opened {
-    pub answer: u8,
     pub fields: Fields,
     pub codes: [u8; 322],
     pub entries: [u8; 272],

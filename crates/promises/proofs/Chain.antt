@@ -18,7 +18,7 @@ use Rattle.collector.specs.declared.Holdings.{Holdings}
 use Rattle.collector.specs.Layout.{no_holdings, copy_gives, copy_leaves}
 use Rattle.order.specs.Numbered.{offer_all_to}
 use Rattle.packet.specs.declared.Fields.{Fields}
-use Rattle.packet.specs.declared.Opened.{Opened}
+use Rattle.packet.specs.Reading.{Opened}
 use Rattle.packet.specs.Writing.{written}
 use Rattle.packet.proofs.Accepted.{Accepted, accepted}
 use Rattle.trips.specs.Given.{Typed, packet_of, GivesBack}

@@ -8,6 +8,7 @@ use lib.ListN.{length, drop}
 use lib.Seq.{sets}
 use lib.Dec.{eqb}
 use borrow.Author.Tests.{eqb-true, eqb-false, eq-eqb, ne_eqb}
+use borrow.Author.Rules.{rules}
 use Rattle.laws.specs.Bits.{run, bits}
 use Rattle.laws.proofs.Bits.{length_run}
 use Rattle.laws.specs.Refusals.{first}
@@ -16,17 +17,19 @@ use Rattle.laws.proofs.Elements.{by_test}
 use Rattle.format.specs.Format.{digits, times, size, inside, decode, fine}
 use Rattle.packet.specs.declared.Kind.{Kind}
 use Rattle.packet.specs.declared.Content.{Content}
-use Rattle.packet.specs.declared.Opened.{Opened}
 use Rattle.packet.specs.Table.{row_of, code, ending, content_lines}
 use Rattle.packet.specs.Content.{content_of, numbers_in, no_such_day}
-use Rattle.packet.specs.Reading.{read_answer, opened, opened_by, refused_as, no_fields, fields_of, codes_in, kind_in, part_at, numbers_at, front_in, body_in, back_in, content_in, digits_in, codes_of, zeros, padded, has_entries, is_unknown, table_of, values_in, read_cases}
+use Rattle.packet.specs.Reading.{Opened, read_answer, opened, opened_by, refused_as, no_fields, fields_of, codes_in, kind_in, part_at, numbers_at, front_in, body_in, back_in, content_in, digits_in, codes_of, zeros, padded, has_entries, is_unknown, table_of, values_in, read_cases}
 use Rattle.packet.proofs.Column.{content_size_lem}
 use Rattle.packet.proofs.Refused.{not_opened}
 use Rattle.reader.specs.Due.{asked, passing, answer_by, Judged}
 use Rattle.packet.specs.declared.RowLines.{RowLines}
 use Rattle.packet.specs.declared.Sizes.{Sizes}
+use Rattle.std.specs.Prelude.{Result, Ok, Err, is_err}
+use Rattle.refusal.specs.declared.Refusal.{Refusal}
+use Rattle.refusal.proofs.Numbers.{some_number, same_number}
 use Rattle.reader.specs.declared.Told.{Told}
-use Rattle.reader.specs.Taking.{Holding, Beside, Right, Blank, Long, told_of, tells, unless_refused, Filled, Lined}
+use Rattle.reader.specs.Taking.{Holding, Beside, Right, Blank, Long, Answered, told_of, told, tells, unless_refused, Filled, Lined}
 use Rattle.reader.proofs.Due.{both, judged_same, line_fine, line_due, asked_some, asked_not, asked_cases}
 use Rattle.reader.proofs.Zeros.{full, kept, length_zeros}
 use Rattle.reader.proofs.Whole as whole
@@ -153,9 +156,9 @@ unfolding opened
 opened_none b a e n = not_opened (read_answer b) b (λ h. n (e ∙ h)) ∙ ap refused_as (sym e)
 
 -- a packet that is refused before its lines are looked at
-pub refused_lined : (b : List ℕ) (a : ℕ) (t : Told) (codes entries digits : List ℕ) → a ≡ read_answer b → (a ≡ 0 → ⊥) → t ≡ told_of (refused_as a) → Blank codes entries digits → Lined b t codes entries digits
+pub refused_lined : (b : List ℕ) (a : ℕ) (t : Answered) (codes entries digits : List ℕ) → a ≡ read_answer b → (a ≡ 0 → ⊥) → t ≡ told_of (refused_as a) → Blank codes entries digits → Lined b t codes entries digits
 refused_lined b a t codes entries digits e n g h =
-    let x : t.answer ≡ a = ap (λ (y : Told). y.answer) g in
+    let x : t.answer ≡ a = ap (λ (y : Answered). y.answer) g in
     record {
       due = x ∙ e;
       said = λ z. absurd (n (sym x ∙ z));
@@ -164,12 +167,12 @@ refused_lined b a t codes entries digits e n g h =
     }
 
 -- what the lines say is what is opened beside 0
-pub all_filled : (b : List ℕ) (t : Told) (codes entries digits : List ℕ) → read_answer b ≡ 0 → Filled (opened_by 0 b) t codes entries digits → Filled (opened b) t codes entries digits
+pub all_filled : (b : List ℕ) (t : Answered) (codes entries digits : List ℕ) → read_answer b ≡ 0 → Filled (opened_by 0 b) t codes entries digits → Filled (opened b) t codes entries digits
 unfolding opened
 all_filled b t codes entries digits e h = rw e h
 
 -- and that is a record of what is told with the arrays in it
-pub opened_of : (o : Opened) (t : Told) (codes entries digits : List ℕ) → Filled o t codes entries digits
+pub opened_of : (o : Opened) (t : Answered) (codes entries digits : List ℕ) → Filled o t codes entries digits
     → ◌≡◌ {A = Opened}
     (record { answer = t.answer; fields = record { typenumber = t.typenumber; codes = t.codes; content = t.content; digits = digits; time = t.time; certificate = t.certificate; signature = t.signature }; codes = codes; entries = entries }) o
 opened_of o t codes entries digits h = rw (h.told_is, h.codes_are, h.entries_are, h.digits_are)
@@ -196,3 +199,22 @@ either_way b x opens held g h = by_test (eqb (opened b).answer 0) (λ t. g ∙ i
 pub none_opened : (b : List ℕ) → (read_answer b ≡ 0 → ⊥) → Blank (opened b).codes (opened b).entries (opened b).fields.digits
 unfolding no_fields
 none_opened b n = rw (opened_none b (read_answer b) refl n) record { codes_none = refl; entries_none = refl; digits_none = refl }
+
+-- ---- what is told of a result tells the result
+abbrev beside_number : Answered → Told
+beside_number t = record { typenumber = t.typenumber; codes = t.codes; content = t.content; time = t.time; certificate = t.certificate; signature = t.signature }
+
+pub told_apart : (r s : Result Told Refusal) → told r ≡ told s → r ≡ s
+told_apart (Ok x) (Ok y) e = ap (λ (t : Answered). Ok (beside_number t)) e
+told_apart (Ok x) (Err d) e = absurd (some_number d (sym (ap (λ (t : Answered). t.answer) e)))
+told_apart (Err d) (Ok y) e = absurd (some_number d (ap (λ (t : Answered). t.answer) e))
+told_apart (Err d) (Err f) e = ap (λ z. Err z) (same_number d f (ap (λ (t : Answered). t.answer) e))
+
+-- a refusal is not told by 0, and a value is
+pub refused_told : (r : Result Told Refusal) → is_err r ≡ true → (told r).answer ≡ 0 → ⊥
+refused_told (Ok t) e z = search (rules, e)
+refused_told (Err d) e z = some_number d z
+
+pub value_told : (r : Result Told Refusal) → is_err r ≡ false → (told r).answer ≡ 0
+value_told (Ok t) e = refl
+value_told (Err d) e = search (rules, e)

@@ -1,5 +1,5 @@
 -- What the functions under the packet reader ask of each other and give: lines taken by columns (ours, between functions).
-use Rattle.std.specs.Prelude.{ℕ, ◌+◌, ◌-◌, ◌*◌, ◌/◌, ◌%◌, ◌<◌, ◌≤◌, ◌≡◌, true, false, cond, List, [], ◌++◌, length, take, drop, eqb, ltb}
+use Rattle.std.specs.Prelude.{Result, Ok, Err, ℕ, ◌+◌, ◌-◌, ◌*◌, ◌/◌, ◌%◌, ◌<◌, ◌≤◌, ◌≡◌, true, false, cond, List, [], ◌++◌, length, take, drop, eqb, ltb}
 use Rattle.laws.specs.Bits.{at, run, bits}
 use Rattle.laws.specs.Scan.{all}
 use Rattle.format.specs.declared.Line.{Line}
@@ -13,9 +13,10 @@ use Rattle.packet.specs.Table.{row_of}
 use Rattle.packet.specs.Content.{numbers_in}
 use Rattle.packet.specs.Columns.{column, columns, single}
 use Rattle.packet.specs.InCode.{every_line, row_at, lines_in, Stands}
-use Rattle.packet.specs.Reading.{type_in, codes_in, kind_in, count_of, part_at, numbers_at, zeros, padded, sizes_of, is_unknown, has_entries, size_bad, length_bad, read_answer, opened_by, refused_as}
-use Rattle.packet.specs.declared.Opened.{Opened}
+use Rattle.packet.specs.Reading.{Opened, type_in, codes_in, kind_in, count_of, part_at, numbers_at, zeros, padded, sizes_of, is_unknown, has_entries, size_bad, length_bad, read_answer, opened_by, refused_as}
 use Rattle.reader.specs.declared.Told.{Told}
+use Rattle.refusal.specs.declared.Refusal.{Refusal}
+use Rattle.refusal.specs.Refusal.{number_of}
 use Rattle.reader.specs.Due.{plain}
 
 -- the own numbers of a line that begins at place p
@@ -126,29 +127,49 @@ pub record Long (codes entries digits : List ℕ) : Type 0 where
   pub entries_long : length entries ≡ 272
   pub digits_long : length digits ≡ 35
 
--- what is opened, but for what those arrays hold
-abbrev pub told_of : Opened → Told
+-- a number given back, and what is told beside it: all that is opened but for what those arrays hold
+pub record Answered : Type 0 where
+  pub answer : ℕ
+  pub typenumber : ℕ
+  pub codes : ℕ
+  pub content : Content
+  pub time : ℕ
+  pub certificate : List ℕ
+  pub signature : List ℕ
+
+-- what is told of what is opened
+abbrev pub told_of : Opened → Answered
 told_of o =
     record { answer = o.answer; typenumber = o.fields.typenumber; codes = o.fields.codes; content = o.fields.content; time = o.fields.time; certificate = o.fields.certificate; signature = o.fields.signature }
+
+-- what is told beside 0
+abbrev pub accepted_as : Told → Answered
+accepted_as t =
+    record { answer = 0; typenumber = t.typenumber; codes = t.codes; content = t.content; time = t.time; certificate = t.certificate; signature = t.signature }
+
+-- both, as a result tells them
+abbrev pub told : Result Told Refusal → Answered
+told (Ok t) = accepted_as t
+told (Err e) = told_of (refused_as (number_of e))
 
 -- what an array that was lent holds then: what is opened, or what it held where the packet is refused
 abbrev pub unless_refused : Opened → List ℕ → List ℕ → List ℕ
 unless_refused o opens held = cond (eqb o.answer 0) opens held
 
 -- a packet of n codes, with this content and this certificate number, beside 0
-abbrev pub tells : List ℕ → ℕ → Content → List ℕ → Told
+abbrev pub tells : List ℕ → ℕ → Content → List ℕ → Answered
 tells b n c y =
     record { answer = 0; typenumber = type_in b; codes = n; content = c; time = at (bits b) (8 * (length b - 74)) 32; certificate = y; signature = run (bits b) (8 * (length b - 64)) 64 8 }
 
 -- what is opened, told and in arrays
-pub record Filled (o : Opened) (t : Told) (codes entries digits : List ℕ) : Type 0 where
+pub record Filled (o : Opened) (t : Answered) (codes entries digits : List ℕ) : Type 0 where
   pub told_is : t ≡ told_of o
   pub codes_are : codes ≡ o.codes
   pub entries_are : entries ≡ o.entries
   pub digits_are : digits ≡ o.fields.digits
 
 -- what its lines say, where they are due nothing
-pub record Lined (b : List ℕ) (t : Told) (codes entries digits : List ℕ) : Type 0 where
+pub record Lined (b : List ℕ) (t : Answered) (codes entries digits : List ℕ) : Type 0 where
   pub due : t.answer ≡ read_answer b
   pub said : t.answer ≡ 0 → Filled (opened_by 0 b) t codes entries digits
   pub nothing : (t.answer ≡ 0 → ⊥) → t ≡ told_of (refused_as t.answer)

@@ -6,16 +6,17 @@ mod parts;
 mod refusals;
 
 ghost use Rattle.std.specs.Prelude.{◌≡◌, ◌≤◌, length};
-ghost use Rattle.packet.specs.Reading.{opened, refused_as, read_answer, text_answer, text_of, body_of};
-ghost use Rattle.reader.specs.Taking.{Right, Blank, told_of, tells, unless_refused, Lined};
+ghost use Rattle.refusal.specs.Refusal.{answer_of};
+ghost use Rattle.packet.specs.Reading.{opened_told, opened, read_answer, text_answer, text_of, body_of};
+ghost use Rattle.reader.specs.Taking.{Right, Blank, told_of, accepted_as, told, tells, unless_refused, Lined};
 
 use packet::{Content, Fields, Opened};
 use parts::Heading;
+use refusal::Refusal;
 
 // What a packet says, but for its codes, its entries and the digits beside its content, which go to arrays.
 #[derive(Clone, Copy)]
 pub struct Told {
-    pub answer: u8,
     pub typenumber: u8,
     pub codes: usize,
     pub content: Content,
@@ -24,27 +25,12 @@ pub struct Told {
     pub signature: [u8; 64],
 }
 
-fn refused(a: u8) -> Told
-    ensures { result ≡ told_of (refused_as a) }
-{
-    Told {
-        answer: a,
-        typenumber: 0,
-        codes: 0,
-        content: Content::Raw,
-        time: 0,
-        certificate: parts::zeros(),
-        signature: parts::zeros(),
-    }
-}
-
 // What is told of a packet that is due nothing: n codes, this content and this certificate number.
 fn accepted(b: &[u8], n: usize, content: Content, certificate: [u8; 12]) -> Told
     requires { (77 ≤ length b.now) × (length b.now ≤ 250) }
-    ensures { result ≡ tells b.now n content certificate }
+    ensures { accepted_as result ≡ tells b.now n content certificate }
 {
     Told {
-        answer: 0,
         typenumber: parts::type_in(b),
         codes: n,
         content,
@@ -55,40 +41,48 @@ fn accepted(b: &[u8], n: usize, content: Content, certificate: [u8; 12]) -> Told
 }
 
 // A packet whose sizes are right: what its lines say, and what they are due.
-fn lines_told(h: Heading, b: &[u8], codes: &mut [u8], entries: &mut [u8], digits: &mut [u8]) -> Told
+fn lines_told(
+    h: Heading,
+    b: &[u8],
+    codes: &mut [u8],
+    entries: &mut [u8],
+    digits: &mut [u8],
+) -> Result<Told, Refusal>
     requires { Right h.kind h.row h.sizes h.codes h.count b.now × Blank codes.old entries.old digits.old }
-    ensures { Lined b.now result codes.new entries.new digits.new }
+    ensures { Lined b.now (told result) codes.new entries.new digits.new }
 {
     let first = parts::take_codes(b, h.codes, codes);
     let c = parts::take_content(h, b, 24 + 96 * h.codes, digits, entries);
     let mut certificate = parts::zeros();
     let good = columns::take_digits(b, b.len() - 64, 12, &mut certificate, 0);
-    let a = refusals::lines_answer(first, good, c.due, packet::no_such_day(c.content));
-    if a != 0 {
-        return refused(a);
-    }
-    accepted(b, h.codes, c.content, certificate)
+    refusals::lines_answer(first, good, c.due, packet::no_such_day(c.content))?;
+    Ok(accepted(b, h.codes, c.content, certificate))
 }
 
 // What a packet says, and its arrays, which are of no use where it is refused.
-fn filled(b: &[u8], codes: &mut [u8], entries: &mut [u8], digits: &mut [u8]) -> Told
+fn filled(
+    b: &[u8],
+    codes: &mut [u8],
+    entries: &mut [u8],
+    digits: &mut [u8],
+) -> Result<Told, Refusal>
     requires { Blank codes.old entries.old digits.old }
-    ensures { Lined b.now result codes.new entries.new digits.new }
+    ensures { Lined b.now (told result) codes.new entries.new digits.new }
 {
     if refusals::size_bad(b) {
-        return refused(20);
+        return Err(Refusal::PacketSize);
     }
     let kind = parts::kind(b);
     let row = table::row_of(kind);
     if refusals::unknown(row.counting) {
-        return refused(23);
+        return Err(Refusal::Type);
     }
     let sizes = table::sizes_of(kind);
     let n = parts::codes_count(b);
     let m = parts::content_size(b);
     let count = parts::count_at(row.counting, b, 16 + 96 * n + sizes.lead, m);
     if refusals::length_bad(sizes, count, m) {
-        return refused(26);
+        return Err(Refusal::Length);
     }
     let h = Heading {
         kind,
@@ -106,8 +100,8 @@ pub fn read_to(
     codes: &mut [u8; 322],
     entries: &mut [u8; 272],
     digits: &mut [u8; 35],
-) -> Told
-    ensures told { result ≡ told_of (opened packet.now) }
+) -> Result<Told, Refusal>
+    ensures told { told result ≡ told_of (opened packet.now) }
     ensures coded { codes.new ≡ unless_refused (opened packet.now) (opened packet.now).codes codes.old }
     ensures listed { entries.new ≡ unless_refused (opened packet.now) (opened packet.now).entries entries.old }
     ensures beside { digits.new ≡ unless_refused (opened packet.now) (opened packet.now).fields.digits digits.old }
@@ -119,7 +113,7 @@ pub fn read_to(
     *entries = parts::zeros();
     *digits = parts::zeros();
     let t = filled(packet, codes, entries, digits);
-    if t.answer != 0 {
+    if t.is_err() {
         *codes = c;
         *entries = e;
         *digits = d;
@@ -128,23 +122,21 @@ pub fn read_to(
 }
 
 // What a packet says, and 20, 23, 26, 24, 25 or 27 where it is none.
-pub fn read(packet: &[u8]) -> Opened
-    ensures { result ≡ opened packet.now }
+pub fn read(packet: &[u8]) -> Result<Opened, Refusal>
+    ensures { opened_told result ≡ opened packet.now }
 {
     let mut codes = parts::zeros();
     let mut entries = parts::zeros();
     let mut digits = parts::zeros();
     let Told {
-        answer,
         typenumber,
         codes: n,
         content,
         time,
         certificate,
         signature,
-    } = read_to(packet, &mut codes, &mut entries, &mut digits);
-    Opened {
-        answer,
+    } = read_to(packet, &mut codes, &mut entries, &mut digits)?;
+    Ok(Opened {
         fields: Fields {
             typenumber,
             codes: n,
@@ -156,38 +148,35 @@ pub fn read(packet: &[u8]) -> Opened
         },
         codes,
         entries,
-    }
+    })
 }
 
-// Its number alone.
-fn answer(packet: &[u8]) -> u8
-    ensures { result ≡ read_answer packet.now }
+// Its answer alone.
+fn answer(packet: &[u8]) -> Result<(), Refusal>
+    ensures { answer_of result ≡ read_answer packet.now }
 {
-    read(packet).answer
+    read(packet)?;
+    Ok(())
 }
 
-// The number that goes with the text: the reader's, and 27 for a type other than 15.
-pub fn text_answer(packet: &[u8]) -> u8
-    ensures { result ≡ text_answer packet.now }
+// The answer that goes with the text: the reader's, and 27 for a type other than 15.
+pub fn text_answer(packet: &[u8]) -> Result<(), Refusal>
+    ensures { answer_of result ≡ text_answer packet.now }
 {
-    let a = answer(packet);
-    if a != 0 {
-        return a;
-    }
+    answer(packet)?;
     if parts::type_in(packet) != 15 {
-        return 27;
+        return Err(Refusal::Range);
     }
-    0
+    Ok(())
 }
 
 // The text, of exactly its stated length; empty where there is none.
 pub fn text(packet: &[u8]) -> &[u8]
     ensures { result.now ≡ text_of packet.now }
 {
-    if text_answer(packet) == 0 {
-        parts::behind_lead(packet, parts::count(packet))
-    } else {
-        &packet[0..0]
+    match text_answer(packet) {
+        Ok(()) => parts::behind_lead(packet, parts::count(packet)),
+        Err(_) => &packet[0..0],
     }
 }
 
@@ -195,9 +184,8 @@ pub fn text(packet: &[u8]) -> &[u8]
 pub fn body(packet: &[u8]) -> &[u8]
     ensures { result.now ≡ body_of packet.now }
 {
-    if answer(packet) == 0 {
-        parts::behind_lead(packet, parts::bytes_count(packet))
-    } else {
-        &packet[0..0]
+    match answer(packet) {
+        Ok(()) => parts::behind_lead(packet, parts::bytes_count(packet)),
+        Err(_) => &packet[0..0],
     }
 }

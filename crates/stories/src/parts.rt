@@ -1,5 +1,6 @@
 // What a packet is to a board: by the head of its body and its message number.
 ghost use Rattle.std.specs.Prelude.{◌≡◌, ◌+◌, ◌-◌, ◌≤◌, get_or};
+ghost use Rattle.story.specs.Joining.{digits_of};
 ghost use Rattle.story.specs.Telling.{last_four};
 ghost use Rattle.stories.specs.Parts.{in_reach, first_number, part_of};
 ghost use Rattle.stories.specs.Steps.{head_in};
@@ -40,12 +41,22 @@ fn first_number(d: [u8; 35], k: u8) -> [u8; 35]
     story::with_last_four(d, story::last_four(&d) as usize + 1 - usize::from(k))
 }
 
+// The digits beside its content; zeros where it is refused.
+fn digits_of(packet: &[u8]) -> [u8; 35]
+    ensures { result ≡ digits_of packet.now }
+{
+    match reader::read(packet) {
+        Ok(opened) => opened.fields.digits,
+        Err(_) => [0; 35],
+    }
+}
+
 // What a packet is a part of; a text by itself is all of its own.
 pub(crate) fn part_of(packet: &[u8]) -> Part
     ensures { result ≡ part_of packet.now }
 {
     let t = reader::body(packet);
-    let d = reader::read(packet).fields.digits;
+    let d = digits_of(packet);
     let k = digit(t, 0);
     let n = digit(t, 2);
     if right_head(t, k, n) && in_reach(d, k, n) {

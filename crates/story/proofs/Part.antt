@@ -17,12 +17,11 @@ use Rattle.laws.proofs.Refusals.{not_due, pass, none_left}
 use Rattle.format.specs.Format.{octets, times, size, need, encode, fill, inside, fine, unmet}
 use Rattle.format.proofs.Tables.{unmet_fine, all_times}
 use Rattle.packet.specs.declared.Fields.{Fields}
-use Rattle.packet.specs.declared.Opened.{Opened}
 use Rattle.packet.specs.declared.Kind.TheVariants.{Text}
 use Rattle.packet.specs.declared.Content.TheVariants as content
 use Rattle.packet.specs.Table.{row_of, kind_of, type_of, code}
 use Rattle.packet.specs.Content.{numbers_of}
-use Rattle.packet.specs.Reading.{is_unknown, part_at, opened, text_answer}
+use Rattle.packet.specs.Reading.{Opened, is_unknown, part_at, opened, text_answer}
 use Rattle.packet.specs.Writing.{front_for, size_for, table_for, values_for, body_for, bytes_for, count_bad, digit_bad, not_taken, written_answer}
 use Rattle.packet.proofs.Column.{content_size_lem}
 use Rattle.writer.specs.Parts.{Counts, content_size, front_fine, rows_fine, back_fine, own_fine}

@@ -20,10 +20,9 @@ use Rattle.format.proofs.Tables.{unmet_fine, all_times, settled, fill_flat, leng
 use Rattle.format.proofs.Round.{write_read}
 use Rattle.packet.specs.declared.Kind.{Kind}
 use Rattle.packet.specs.declared.Fields.{Fields}
-use Rattle.packet.specs.declared.Opened.{Opened}
 use Rattle.packet.specs.Table.{type_of, content_bytes, row_of, count_line, content_lines, code, ending, packet}
 use Rattle.packet.specs.Content.{kind_for, numbers_of, numbers_in, count_for, no_such_day}
-use Rattle.packet.specs.Reading.{type_in, codes_in, kind_in, content_at, content_size, count_of, part_at, table_of, values_in, numbers_at, front_in, body_in, back_in, content_in, digits_in, zeros, padded, codes_of, has_entries, fields_of, read_answer, opened_by, opened, part_by, body_of}
+use Rattle.packet.specs.Reading.{Opened, type_in, codes_in, kind_in, content_at, content_size, count_of, part_at, table_of, values_in, numbers_at, front_in, body_in, back_in, content_in, digits_in, zeros, padded, codes_of, has_entries, fields_of, read_answer, opened_by, opened, part_by, body_of}
 use Rattle.packet.specs.Writing.{row_for, digits_before, digits_after, front_for, back_for, body_for, size_for, table_for, numbers_for, values_for, bytes_for, lent_bad, not_written, count_bad, digit_bad, other_type, body_lost, digits_lost, not_taken, written_answer, written_by, written, output_by, packet_output}
 use Rattle.packet.proofs.Accepted.{Accepted, accepted}
 use Rattle.packet.proofs.Column.{content_size_lem}

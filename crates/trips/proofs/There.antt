@@ -11,10 +11,9 @@ use Rattle.laws.specs.Bits.{Under}
 use Rattle.laws.proofs.Cases.{if_yes, if_no}
 use Rattle.laws.proofs.Elements.{by_test}
 use Rattle.packet.specs.declared.Fields.{Fields}
-use Rattle.packet.specs.declared.Opened.{Opened}
 use Rattle.packet.specs.Table.{kind_of}
 use Rattle.packet.specs.Content.{kind_for}
-use Rattle.packet.specs.Reading.{has_entries, opened, body_of}
+use Rattle.packet.specs.Reading.{Opened, has_entries, opened, body_of}
 use Rattle.packet.specs.Writing.{size_for, bytes_for, written_answer, written_by, written, packet_output}
 use Rattle.trips.specs.Given.{Typed, packet_of, GivesBack}
 use Rattle.trips.proofs.Answers.{write_answer}

@@ -5,9 +5,8 @@ use Rattle.laws.specs.Bits.{Under}
 use Rattle.format.specs.Format.{fill, fine}
 use Rattle.packet.specs.declared.Content.{Content}
 use Rattle.packet.specs.declared.Fields.{Fields}
-use Rattle.packet.specs.declared.Opened.{Opened}
 use Rattle.packet.specs.Content.{kind_for, numbers_of, count_for}
-use Rattle.packet.specs.Reading.{zeros, padded, has_entries, opened, body_of, text_answer, text_of}
+use Rattle.packet.specs.Reading.{Opened, zeros, padded, has_entries, opened, body_of, text_answer, text_of}
 use Rattle.packet.specs.Writing.{row_for, written, packet_output}
 
 -- ---- what the types give (ours: the definitions speak of numbers and lists, the compiler gives the rest)

@@ -1,5 +1,5 @@
 -- `reader::filled`: what its goals need. Assumes nothing.
-use mathlib.Core.Path.{◌≡◌, sym, ap, ◌∙◌}
+use mathlib.Core.Path.{◌≡◌, refl, sym, ap, ◌∙◌}
 use native.Mathlib.Omega.{arith}
 use mathlib.Core.Bool.{false}
 use Rattle.packet.specs.Reading.{is_unknown, size_bad}
@@ -10,13 +10,13 @@ use Rattle.reader.proofs.filled.Goals as goal
 
 pub returns-then-size_bad : goal.returns-then-size_bad
 returns-then-size_bad c = let b = c.args.b.now in
-    telling.refused_lined b 20 _ _ _ _ (whole.says_20 b (sym c.size_bad.ensures ∙ c.if-size_bad.true)) (λ e. omega arith) c.refused.ensures c.requires
+    telling.refused_lined b 20 _ _ _ _ (whole.says_20 b (sym c.size_bad.ensures ∙ c.if-size_bad.true)) (λ e. omega arith) refl c.requires
 
 pub returns-then-unknown : goal.returns-then-unknown
 returns-then-unknown c = let b = c.args.b.now in
     let sized : size_bad b ≡ false = sym c.size_bad.ensures ∙ c.if-size_bad.false in
     let by = whole.unknown_is c.kind-kind.result _ _ c.row_of-row.ensures c.unknown.ensures ∙ ap is_unknown c.kind-kind.ensures in
-    telling.refused_lined b 23 _ _ _ _ (whole.says_23 b sized (sym by ∙ c.if-unknown.true)) (λ e. omega arith) c.refused-then-unknown.ensures c.requires
+    telling.refused_lined b 23 _ _ _ _ (whole.says_23 b sized (sym by ∙ c.if-unknown.true)) (λ e. omega arith) refl c.requires
 
 pub overflow_mul-n : goal.overflow_mul-n
 overflow_mul-n c = omega (arith, c.codes_count-n.ensures.1)
@@ -43,7 +43,7 @@ returns-then-length_bad c = let b = c.args.b.now in
     let by = whole.unknown_is c.kind-kind.result _ _ c.row_of-row.ensures c.unknown.ensures ∙ ap is_unknown c.kind-kind.ensures in
     let count = whole.count_here b c.kind-kind.result _ _ _ _ c.count_at-count.result c.kind-kind.ensures c.row_of-row.ensures c.sizes_of-sizes.ensures c.codes_count-n.ensures.0 c.content_size-m.ensures c.count_at-count.ensures in
     let long = whole.long_here b c.kind-kind.result c.sizes_of-sizes.result c.count_at-count.result c.content_size-m.result c.length_bad.result c.kind-kind.ensures c.sizes_of-sizes.ensures count c.content_size-m.ensures c.length_bad.ensures in
-    telling.refused_lined b 26 _ _ _ _ (whole.says_26 b sized (sym by ∙ c.if-unknown.false) (sym long ∙ c.if-length_bad.true)) (λ e. omega arith) c.refused-then-length_bad.ensures c.requires
+    telling.refused_lined b 26 _ _ _ _ (whole.says_26 b sized (sym by ∙ c.if-unknown.false) (sym long ∙ c.if-length_bad.true)) (λ e. omega arith) refl c.requires
 
 pub lines_told-requires : goal.lines_told-requires
 lines_told-requires c = let b = c.args.b.now in

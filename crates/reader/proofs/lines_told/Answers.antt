@@ -8,9 +8,10 @@ use lib.Seq.{sets}
 use Rattle.packet.specs.Content.{no_such_day}
 use Rattle.format.specs.Format.{times}
 use Rattle.packet.specs.Table.{code}
-use Rattle.packet.specs.Reading.{numbers_at, read_answer, refused_as}
-use Rattle.reader.specs.declared.Told.{Told}
-use Rattle.reader.specs.Taking.{told_of}
+use Rattle.packet.specs.Reading.{numbers_at, read_answer}
+use Rattle.std.proofs.lemmas.Result.{err_from_is_err_and}
+use Rattle.refusal.specs.Refusal.{number_of}
+use Rattle.refusal.proofs.Numbers.{some_number}
 use Rattle.reader.proofs.Zeros.{length_zeros}
 use Rattle.reader.proofs.Due.{min_left}
 use Rattle.reader.proofs.Telling as telling
@@ -43,33 +44,25 @@ pub take_digits-good-requires : goal.take_digits-good-requires
 take_digits-good-requires c = let a = c.args in
     (omega (arith, telling.codes_there a.h.kind a.h.row a.h.sizes a.h.codes a.h.count a.b.now c.requires.0), omega arith, omega (arith, length_zeros 12 c.zeros-certificate.result c.zeros-certificate.ensures), omega (arith, telling.most a.h.kind a.h.row a.h.sizes a.h.codes a.h.count a.b.now c.requires.0))
 
-pub shape_of-codes-then-a-ne0 : goal.shape_of-codes-then-a-ne0
-shape_of-codes-then-a-ne0 c = let a = c.args in
+pub lines_answer-requires : goal.lines_answer-requires
+lines_answer-requires c = let a = c.args in
+    let h = c.requires.0 in
     let b = a.b.now in
-    (telling.long_all _ _ _ _ _ _ (numbers_at (times a.h.codes code) b 24) a.h.kind a.h.count (24 + 96 * a.h.codes) b c.requires.1 c.take_codes-first.ensures.0 c.take_content-c.ensures.2).codes_long ∙ sym (length_zeros 322 a.codes.now c.requires.1.codes_none)
+    let t = c.take_content-c.ensures in
+    let j = telling.packet_due a.h.kind a.h.row a.h.sizes a.h.codes a.h.count b h c.take_codes-first.result c.take_content-c.result.due _ c.take_digits-good.result c.take_digits-good.ensures.1 c.take_codes-first.ensures.1 t.1 refl in
+    λ l. (j.due l).0
 
-pub shape_of-entries-then-a-ne0 : goal.shape_of-entries-then-a-ne0
-shape_of-entries-then-a-ne0 c = let a = c.args in
-    let b = a.b.now in
-    (telling.long_all _ _ _ _ _ _ (numbers_at (times a.h.codes code) b 24) a.h.kind a.h.count (24 + 96 * a.h.codes) b c.requires.1 c.take_codes-first.ensures.0 c.take_content-c.ensures.2).entries_long ∙ sym (length_zeros 272 a.entries.now c.requires.1.entries_none)
-
-pub shape_of-digits-then-a-ne0 : goal.shape_of-digits-then-a-ne0
-shape_of-digits-then-a-ne0 c = let a = c.args in
-    let b = a.b.now in
-    (telling.long_all _ _ _ _ _ _ (numbers_at (times a.h.codes code) b 24) a.h.kind a.h.count (24 + 96 * a.h.codes) b c.requires.1 c.take_codes-first.ensures.0 c.take_content-c.ensures.2).digits_long ∙ sym (length_zeros 35 a.digits.now c.requires.1.digits_none)
-
-pub returns-then-a-ne0 : goal.returns-then-a-ne0
-returns-then-a-ne0 c = let a = c.args in
+pub returns-in_err-lines_answer : goal.returns-in_err-lines_answer
+returns-in_err-lines_answer c = let a = c.args in
     let h = c.requires.0 in
     let b = a.b.now in
     let t = c.take_content-c.ensures in
     let j = telling.packet_due a.h.kind a.h.row a.h.sizes a.h.codes a.h.count b h c.take_codes-first.result c.take_content-c.result.due _ c.take_digits-good.result c.take_digits-good.ensures.1 c.take_codes-first.ensures.1 t.1 refl in
     let content = telling.content_is a.h.kind a.h.row a.h.sizes a.h.codes a.h.count b h c.take_content-c.result.content t.0 in
-    let answer : c.lines_answer-a.result ≡ read_answer b = telling.answer_is a.h.kind a.h.row a.h.sizes a.h.codes a.h.count b h _ (c.lines_answer-a.ensures ∙ telling.says b _ c.no_such_day.result j (omega (arith, c.take_codes-first, min_left (min c.take_codes-first.result (cond c.take_digits-good.result 255 25)) c.take_content-c.result.due, min_left c.take_codes-first.result (cond c.take_digits-good.result 255 25))) (c.no_such_day.ensures ∙ ap no_such_day content)) in
+    let answer : number_of c.in_err-lines_answer.field-0.0 ≡ read_answer b = telling.answer_is a.h.kind a.h.row a.h.sizes a.h.codes a.h.count b h _ (c.in_err-lines_answer.ensures ∙ telling.says b _ c.no_such_day.result j (omega (arith, c.take_codes-first, min_left (min c.take_codes-first.result (cond c.take_digits-good.result 255 25)) c.take_content-c.result.due, min_left c.take_codes-first.result (cond c.take_digits-good.result 255 25))) (c.no_such_day.ensures ∙ ap no_such_day content)) in
     let long = telling.long_all _ _ _ _ _ _ (numbers_at (times a.h.codes code) b 24) a.h.kind a.h.count (24 + 96 * a.h.codes) b c.requires.1 c.take_codes-first.ensures.0 c.take_content-c.ensures.2 in
-    let no = c.if-a-ne0.true in
-    let x = ap (λ (t : Told). t.answer) c.refused.ensures in
-    record { due = x ∙ answer; said = λ e. absurd (no (sym x ∙ e)); nothing = λ e. c.refused.ensures ∙ ap (λ (y : ℕ). told_of (refused_as y)) (sym x); long = long }
+    let p = err_from_is_err_and c.from_residual.result c.from_residual.ensures.1 in
+    rw (p.1, p.2) record { due = answer; said = λ e. absurd (some_number c.in_err-lines_answer.field-0.0 e); nothing = λ e. refl; long = long }
 
 pub accepted-requires : goal.accepted-requires
 accepted-requires c = let a = c.args in
@@ -97,12 +90,10 @@ returns c = let a = c.args in
     let t = c.take_content-c.ensures in
     let j = telling.packet_due a.h.kind a.h.row a.h.sizes a.h.codes a.h.count b h c.take_codes-first.result c.take_content-c.result.due _ c.take_digits-good.result c.take_digits-good.ensures.1 c.take_codes-first.ensures.1 t.1 refl in
     let content = telling.content_is a.h.kind a.h.row a.h.sizes a.h.codes a.h.count b h c.take_content-c.result.content t.0 in
-    let answer : c.lines_answer-a.result ≡ read_answer b = telling.answer_is a.h.kind a.h.row a.h.sizes a.h.codes a.h.count b h _ (c.lines_answer-a.ensures ∙ telling.says b _ c.no_such_day.result j (omega (arith, c.take_codes-first, min_left (min c.take_codes-first.result (cond c.take_digits-good.result 255 25)) c.take_content-c.result.due, min_left c.take_codes-first.result (cond c.take_digits-good.result 255 25))) (c.no_such_day.ensures ∙ ap no_such_day content)) in
+    let answer : 0 ≡ read_answer b = telling.answer_is a.h.kind a.h.row a.h.sizes a.h.codes a.h.count b h _ (c.in_ok-lines_answer.ensures ∙ telling.says b _ c.no_such_day.result j (omega (arith, c.take_codes-first, min_left (min c.take_codes-first.result (cond c.take_digits-good.result 255 25)) c.take_content-c.result.due, min_left c.take_codes-first.result (cond c.take_digits-good.result 255 25))) (c.no_such_day.ensures ∙ ap no_such_day content)) in
     let long = telling.long_all _ _ _ _ _ _ (numbers_at (times a.h.codes code) b 24) a.h.kind a.h.count (24 + 96 * a.h.codes) b c.requires.1 c.take_codes-first.ensures.0 c.take_content-c.ensures.2 in
-    let zero : c.lines_answer-a.result ≡ 0 = c.if-a-ne0.false in
-    let x : c.accepted.result.answer ≡ 0 = ap (λ (t : Told). t.answer) c.accepted.ensures in
     record {
-      due = x ∙ sym zero ∙ answer;
+      due = answer;
       said =
           λ e. record {
             told_is = c.accepted.ensures ∙ telling.told_all b _ _ _ h.many content (telling.certificate_is a.h.kind a.h.row a.h.sizes a.h.codes a.h.count b h c.zeros-certificate.result _ c.zeros-certificate.ensures c.take_digits-good.ensures.0);
@@ -110,6 +101,6 @@ returns c = let a = c.args in
             entries_are = telling.entries_are a.h.kind a.h.row a.h.sizes a.h.codes a.h.count b h _ _ t.2;
             digits_are = telling.digits_told b _ (telling.digits_are a.h.kind a.h.row a.h.sizes a.h.codes a.h.count b h _ _ t.2);
           };
-      nothing = λ e. absurd (e x);
+      nothing = λ e. absurd (e refl);
       long = long;
     }
