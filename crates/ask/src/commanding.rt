@@ -72,13 +72,7 @@ fn memory(rt: &impl Print, outcome: Result<usize, Refusal>, lent: &[u8]) -> io::
 }
 
 // All that was read. Beside a refusal it should be nothing.
-fn shown(
-    rt: &impl Print,
-    answer: u8,
-    c: Command,
-    codes: &[u8],
-    address: &[u8],
-) -> io::Result<()> {
+fn shown(rt: &impl Print, answer: u8, c: Command, codes: &[u8], address: &[u8]) -> io::Result<()> {
     let n = codes_length(c);
     say::one(rt, b"decode", answer as u64)?;
     command(rt, c)?;
