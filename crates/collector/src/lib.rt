@@ -18,6 +18,7 @@ use refusal::Refusal;
 // Room for one packet: the pair and total that it is held for, bit k for each number k held (the top bit is 0), and the bytes.
 #[derive(Clone, Copy)]
 pub struct Holding {
+    // a flag and no Option: a place that is made free keeps its bytes and marks (`release_gives`)
     pub held: bool,
     pub level: u8,
     pub version: u8,
@@ -72,6 +73,7 @@ pub struct Offered {
 // A place as people read it, with 63 marks: the definitions speak of it, and a holding is seen as one. No function takes it.
 #[derive(Clone, Copy)]
 pub struct Place {
+    // likewise
     pub held: bool,
     pub level: u8,
     pub version: u8,
