@@ -42,8 +42,8 @@ fn codes_length(c: Command) -> usize
     ensures { result ≤ 5865 }
 {
     match c {
-        Command::Resource { length: _ } => 23,
-        Command::Lock { khz: _, count } => { if count < 256 { 23 * count } else { 5865 } }
+        Command::Resource { .. } => 23,
+        Command::Lock { count, .. } => { if count < 256 { 23 * count } else { 5865 } }
         _ => 0,
     }
 }

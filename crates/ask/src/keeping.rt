@@ -79,10 +79,8 @@ fn copied(
     memory: &mut [u8],
 ) -> io::Result<()> {
     let e = n.min(memory.len());
-    let (answer, length) = match collector::copy(c, level, version, &mut memory[0..e]) {
-        Ok(length) => (0, length),
-        Err(refusal) => (refusal.number(), 0),
-    };
+    let copied = collector::copy(c, level, version, &mut memory[0..e]);
+    let (answer, length) = say::told(copied);
     say::one(rt, b"copy", answer.into())?;
     say::memory(rt, memory, length)
 }
@@ -107,7 +105,7 @@ fn place(b: &[u8]) -> Holding {
         level: octets::byte(b, 3),
         version: octets::byte(b, 4),
         total: Total(octets::byte(b, 5)),
-        marks: marks,
+        marks,
         bytes: [0; 252],
     }
 }

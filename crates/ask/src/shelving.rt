@@ -6,7 +6,6 @@
 ghost use Rattle.std.specs.Prelude.{◌≡◌, length};
 
 use crate::{input, say};
-use refusal::Refusal;
 use std::io;
 
 // A record more than a shelf may have, and a byte.
@@ -31,11 +30,8 @@ fn added(
 ) -> io::Result<()> {
     let e = summary.len().min(memory.len());
     input::fill(summary, &mut memory[0..e]);
-    let answer = match shelf::add(shelf, given, &mut memory[0..e]) {
-        Ok(()) => 0,
-        Err(refusal) => refusal.number(),
-    };
-    say::one(rt, b"add", answer.into())?;
+    let answer = say::answer(shelf::add(shelf, given, &mut memory[0..e]));
+    say::one(rt, b"add", answer)?;
     say::memory(rt, memory, e)
 }
 
@@ -55,25 +51,10 @@ pub(crate) fn add(rt: &impl Print, b: &[u8]) -> io::Result<()> {
     )
 }
 
-// The answer, and the memory, of which all that is due is written or nothing.
-fn told(
-    rt: &impl Print,
-    name: &[u8],
-    written: Result<usize, Refusal>,
-    memory: &[u8],
-) -> io::Result<()> {
-    let (answer, length) = match written {
-        Ok(length) => (0, length),
-        Err(refusal) => (refusal.number(), 0),
-    };
-    say::one(rt, name, answer.into())?;
-    say::memory(rt, memory, length)
-}
-
 fn summarized(rt: &impl Print, shelf: &[u8], n: usize, memory: &mut [u8]) -> io::Result<()> {
     let e = n.min(memory.len());
     let written = shelf::summarize(shelf, &mut memory[0..e]).map(|()| 256);
-    told(rt, b"summarize", written, memory)
+    say::counted(rt, b"summarize", written, memory)
 }
 
 // A whole record.
@@ -99,7 +80,7 @@ fn made(
 ) -> io::Result<()> {
     let e = n.min(memory.len());
     let written = shelf::make(level, version, packet, &mut memory[0..e]).map(|()| 256);
-    told(rt, b"make", written, memory)
+    say::counted(rt, b"make", written, memory)
 }
 
 // A whole record.
@@ -117,7 +98,7 @@ pub(crate) fn make(rt: &impl Print, b: &[u8]) -> io::Result<()> {
 fn lined(rt: &impl Print, given: &[u8], n: usize, memory: &mut [u8]) -> io::Result<()> {
     let e = n.min(memory.len());
     let written = shelf::line(given, &mut memory[0..e]);
-    told(rt, b"line", written, memory)
+    say::counted(rt, b"line", written, memory)
 }
 
 // A whole record.

@@ -15,11 +15,11 @@ fn story(b: &[u8]) -> Story {
     input::fill(octets::part(b, 55, 64), &mut signature);
     Story {
         kind: octets::byte(b, 1),
-        digits: digits,
+        digits,
         codes: input::two(b, 2) as usize,
         time: input::four(b, 39),
-        certificate: certificate,
-        signature: signature,
+        certificate,
+        signature,
     }
 }
 

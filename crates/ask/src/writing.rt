@@ -55,10 +55,10 @@ fn fields(b: &[u8]) -> Fields {
         typenumber: octets::byte(b, 1),
         codes: input::two(b, 2) as usize,
         content: c,
-        digits: digits,
+        digits,
         time: input::four(b, 47),
-        certificate: certificate,
-        signature: signature,
+        certificate,
+        signature,
     }
 }
 

@@ -119,6 +119,18 @@ pub record Going (out₀ : List ℕ) (p s n w : ℕ) (xs : List ℕ) (m : ℕ) (
   pub sizes : p + s ≡ q + size (drop j T)
   pub rest : strips (bits out₀) p s n (λ r. encode T (fill T (drop (r * w) xs))) ≡ strips (bits out) q s n (λ r. encode (drop j T) (fill (drop j T) (drop (i + r * w) xs)))
 
+pub going_first : (out : List ℕ) (p : ℕ) (ts : Lines) (n s w : ℕ) (xs : List ℕ) → Rows ts n w xs p → size (lines_in ts) ≡ s → Going out p s n w xs ts.m (lines_in ts) out p 0 0
+going_first out p ts n s w xs h e =
+    let d = h.each in
+    record {
+      within = omega arith;
+      behind = omega arith;
+      kept = refl;
+      room = omega arith;
+      sizes = omega arith;
+      rest = strips_same n _ _ (bits out) p s (λ r k. let i : r * w ≡ 0 + r * w = omega arith in ap (λ (m : ℕ). encode (lines_in ts) (fill (lines_in ts) (drop m xs))) i);
+    }
+
 module _ (T : List Line) (j : ℕ) (d t : Line) (h : j < length T) (e : t ≡ get_or T j d) where
   sized : size (drop j T) ≡ t.count * t.width + size (drop (j + 1) T)
   unfolding size
