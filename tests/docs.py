@@ -102,8 +102,9 @@ def takes_input(contract):
     return re.search(r": &(?:mut )?(?:R\b|impl Files\b)", contract.partition("ensures")[0]) is not None
 
 
-def tells(crate, left, head):
-    """Whether the left side names the whole answer by what is told of it: a law, WORD_apart beside the WORD's definition, says that no two are told alike."""
+def tells(crate, left, clauses, head):
+    """Whether the left side names the answer by what is told of it: a law, WORD_apart beside the WORD's definition, says that no two are told alike. Each
+    word that the law goes by has a clause."""
     if left == "answer_of result":
         return "-> Result<(), Refusal>" in " ".join(head.split())
     word = re.fullmatch(r"(\w+)(?: \w+)? result", left)
@@ -111,8 +112,12 @@ def tells(crate, left, head):
         return False
     from_where = r"Rattle\.(\w+)\.specs\.[\w.]+\.\{[^}]*\b%s\b" % word.group(1)
     homes = {home for path in files("crates/%s/src/**/*.rt" % crate) for home in re.findall(from_where, text(path))}
-    law = re.compile(r"^ *pub %s_apart :" % word.group(1).replace("no_room", "told"), re.M)
-    return any(law.search(text(p)) for home in homes for p in files("crates/%s/proofs/*.antt" % home))
+    laws = [m.group(1) for home in homes for p in files("crates/%s/proofs/*.antt" % home) for m in re.finditer(r"^ *pub \w+_apart : (.*)$", text(p), re.M)]
+    for law in laws:
+        words = set(re.findall(r"(\w+)(?: \w)? [a-z] ≡", law)) - {"→"}
+        if word.group(1) in words and all(re.search(r"\{ %s(?: \w+)? result ≡ " % w, " ".join(clauses)) for w in words):
+            return True
+    return False
 
 
 def is_closed(crate, contract, forms):
@@ -126,7 +131,7 @@ def is_closed(crate, contract, forms):
             return False
         fact = m.group(1)
         left, equals, right = fact.partition(" ≡ ")
-        of_answer = re.fullmatch(r"result(?:\.now)?", left) or tells(crate, left, head)
+        of_answer = re.fullmatch(r"result(?:\.now)?", left) or tells(crate, left, clauses, head)
         of_memory = re.fullmatch(r"(?:bits )?(\w+)\.new", left)
         closed = re.match(r"(\w+) result (.*)", fact)
         if equals and (of_answer or of_memory) and not re.search(r"\.new\b|≡|(?<![\w.])result(?!\w)", right):
