@@ -215,7 +215,10 @@ fn write_octets(out: &mut [u8], k: usize, d: &[u8])
     requires { k + length d.now ≤ length out.old }
     ensures { bits out.new ≡ sets (bits out.old) (k * 8) (spread 8 d.now) }
 {
-    out[k..k + d.len()].copy_from_slice(d);
+    // a for and no copy_from_slice: its call of memmove would be one that programs in C don't bring yet
+    for (j, x) in d.iter().enumerate() {
+        out[k + j] = *x;
+    }
 }
 
 // Numbers that are bytes, all within so many.
