@@ -87,11 +87,15 @@ fn offset_of_any(letter: AnyLetter) -> u16
 fn likely(offset: u16) -> AnyLetter
     ensures { result ≡ likely_of offset }
 {
+    // an arm for each number, so that the letter is looked up and no jump is guessed
     match offset / 32 % 8 {
+        0 => AnyLetter::A,
+        1 => AnyLetter::A,
         2 => AnyLetter::CPrime,
         3 => AnyLetter::C,
         4 => AnyLetter::B,
         5 => AnyLetter::D,
+        6 => AnyLetter::A,
         _ => AnyLetter::A,
     }
 }

@@ -4,6 +4,14 @@ use Rattle.std.proofs.lemmas.Bool.Decides.{nat_tests}
 use Rattle.block.specs.Letters.{likely_of}
 use Rattle.block.proofs.likely.Goals as goal
 
+pub returns-in-0 : goal.returns-in-0
+unfolding likely_of
+returns-in-0 c = rw c.in-0.is
+
+pub returns-in-1 : goal.returns-in-1
+unfolding likely_of
+returns-in-1 c = rw c.in-1.is
+
 pub returns-in-2 : goal.returns-in-2
 unfolding likely_of
 returns-in-2 c = rw c.in-2.is
@@ -19,6 +27,10 @@ returns-in-4 c = rw c.in-4.is
 pub returns-in-5 : goal.returns-in-5
 unfolding likely_of
 returns-in-5 c = rw c.in-5.is
+
+pub returns-in-6 : goal.returns-in-6
+unfolding likely_of
+returns-in-6 c = rw c.in-6.is
 
 pub returns-in_default : goal.returns-in_default
 unfolding likely_of
