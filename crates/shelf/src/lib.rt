@@ -17,7 +17,12 @@ use refusal::Refusal;
 fn all_are(b: &[u8], value: u8) -> bool
     ensures { result ≡ all (eqb value) b.now }
 {
-    b.iter().all(|x| value == *x)
+    // no stop at the first other byte: so many are compared at once
+    let mut good = true;
+    for x in b {
+        good &= value == *x;
+    }
+    good
 }
 
 #[tactic(auto, unfolding(frame::specs::Heading::reserved))]
