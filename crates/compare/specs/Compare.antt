@@ -1,5 +1,5 @@
 -- What comparing answers and leaves (paper 02, K9): 34 and 35 for left, then for right, then 10.
-use Rattle.std.specs.Prelude.{Result, Ok, Err, Bool, false, true, cond, not, ◌&&◌, List, ◌++◌, ℕ, length, drop, eqb, ltb}
+use Rattle.std.specs.Prelude.{Result, Ok, Err, Bool, false, true, cond, not, ◌&&◌, List, ◌++◌, ℕ, length, drop, eqb, ltb, codes, decimal}
 use Rattle.shelf.specs.Shelf.{shelf_answer}
 use Rattle.refusal.specs.Refusal.{number_of}
 use Rattle.compare.specs.declared.Unlisted.{Unlisted}
@@ -43,6 +43,12 @@ no_room (Ok n) = false
 no_room (Err (unlisted.Left e)) = false
 no_room (Err (unlisted.Right e)) = false
 no_room (Err unlisted.Room) = true
+
+-- what is printed of it: the number, a space and the file's name (K9); of too short an output, left's name
+abbrev pub unlisted_text : Unlisted → List ℕ
+unlisted_text (unlisted.Left e) = decimal (number_of e) ++ codes " left"
+unlisted_text (unlisted.Right e) = decimal (number_of e) ++ codes " right"
+unlisted_text unlisted.Room = decimal 10 ++ codes " left"
 
 unfoldable pub compared : List ℕ → List ℕ → List ℕ → Compared
 compared left right out = record {

@@ -1,11 +1,11 @@
 // Two shelves compared: a line for each record that differs or that only one has, and a last line with their number.
 #![tactic(auto)]
 
-ghost use Rattle.std.specs.Prelude.{◌≡◌, [], ◌∷◌, ◌+◌, ◌*◌, ◌<◌, ◌≤◌, length, MatchOption};
+ghost use Rattle.std.specs.Prelude.{Some, ◌≡◌, [], ◌∷◌, ◌+◌, ◌*◌, ◌<◌, ◌≤◌, length, MatchOption};
 ghost use Rattle.std.proofs.lemmas.List.Edits.{sets};
 ghost use Rattle.compare.specs.Differences.{differs, only, first_byte, of_both, of_record, below, longer};
 ghost use Rattle.compare.specs.Texts.{phrase, text_of, Further};
-ghost use Rattle.compare.specs.Compare.{told, no_room, compared, room_refused, compared_into};
+ghost use Rattle.compare.specs.Compare.{told, no_room, unlisted_text, compared, room_refused, compared_into};
 
 use refusal::Refusal;
 use std::error::Error;
@@ -24,6 +24,8 @@ pub enum Unlisted {
 
 // The number and the file's name; too short an output is told as left's.
 impl fmt::Display for Unlisted {
+    ghost output = { λ unlisted. Some (unlisted_text unlisted) };
+
     fn fmt<W: fmt::Write>(&self, f: &mut fmt::Formatter<W>) -> fmt::Result {
         match self {
             Unlisted::Left(refusal) => write!(f, "{refusal} left"),

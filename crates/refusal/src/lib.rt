@@ -1,7 +1,7 @@
 // Why a function gives nothing back: the refusals of the papers, each with its listed number.
 #![tactic(auto)]
 
-ghost use Rattle.std.specs.Prelude.{◌≡◌};
+ghost use Rattle.std.specs.Prelude.{Some, ◌≡◌, decimal};
 ghost use Rattle.refusal.specs.Refusal.{number_of};
 
 use std::error::Error;
@@ -94,7 +94,10 @@ impl Refusal {
     }
 }
 
+// Its number in decimal digits.
 impl fmt::Display for Refusal {
+    ghost output = { λ refusal. Some (decimal (number_of refusal)) };
+
     fn fmt<W: fmt::Write>(&self, f: &mut fmt::Formatter<W>) -> fmt::Result {
         write!(f, "{}", self.number())
     }
