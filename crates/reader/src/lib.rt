@@ -175,7 +175,7 @@ pub fn text(packet: &[u8]) -> &[u8]
     ensures { result.now ≡ text_of packet.now }
 {
     match text_answer(packet) {
-        Ok(()) => parts::behind_lead(packet, parts::count(packet)),
+        Ok(()) => parts::behind_lead(packet, parts::text_length(packet)),
         Err(_) => &packet[0..0],
     }
 }

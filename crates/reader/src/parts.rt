@@ -76,6 +76,14 @@ pub(crate) fn count(b: &[u8]) -> usize
     count_at(table::row_of(f).counting, b, at, content_size(b))
 }
 
+// The bytes of the text: as many as its length says, whatever they are.
+pub(crate) fn text_length(b: &[u8]) -> usize
+    ensures { result ≡ count_of b.now }
+{
+    let whole = count(b);
+    whole
+}
+
 pub(crate) fn lead(b: &[u8]) -> usize
     ensures { (result ≡ part_at (row_of (kind_in b.now))) × (result ≤ 160) }
 {
