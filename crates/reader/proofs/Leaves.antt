@@ -1,6 +1,7 @@
 -- The loops over half bytes, bytes and rows: a turn of each, and flags that a test puts down. Assumes nothing.
 use mathlib.Core.Path.{◌≡◌, refl, sym, ap, ap₂, ◌∙◌}
-use mathlib.Core.Bool.{Bool, true, false, cond, ◌&&◌, and-true, and_assoc}
+use mathlib.Core.Bool.{Bool, true, false, cond, ◌&&◌, and-true, and-false, and_assoc}
+use mathlib.Core.Logic.{◌⊎◌, ⊎_elim}
 use mathlib.Core.List.{List, [], ◌∷◌, ◌++◌}
 use Prim.Native.Nat.{ℕ, zero, suc, ◌+◌, ◌-◌, ◌*◌, ◌/◌, ◌%◌, ◌<◌, ◌≤◌}
 use native.Mathlib.Nat.{mul_assoc}
@@ -9,7 +10,7 @@ use native.Mathlib.Omega.{arith}
 use lib.ListN.{length, get_or, set, take, drop, length-drop, take-append-drop}
 use lib.Seq.{sets, length-take-le}
 use lib.Dec.{leb, eqb}
-use borrow.Author.Tests.{le-leb, lt-leb, leb-true, eq-eqb, ne_eqb, eqb-true, eqb-false}
+use borrow.Author.Tests.{le-leb, lt-leb, leb-true, leb-false, eq-eqb, ne_eqb, eqb-true, eqb-false}
 use Rattle.laws.specs.Bits.{at, run, bits}
 use Rattle.laws.specs.Strips.{strips, every}
 use Rattle.laws.proofs.Bits.{Under, length_spread, spread_append, run_right, run_spread, under_drop}
@@ -45,6 +46,17 @@ first_digit : (x : ℕ) (xs : List ℕ) → inside 0 9 (x ∷ xs) ≡ (leb x 9 &
 unfolding inside
 first_digit x xs = rw (le-leb 0 x (omega arith))
 
+-- a half byte above 9 counts one more, a digit none
+half_counted : (g u : ℕ) → u < 16 → eqb (g + (u + 6) / 16) 0 ≡ (eqb g 0 && leb u 9)
+half_counted g u h =
+    by_test (leb u 9)
+    (λ t.
+    let z : g + (u + 6) / 16 ≡ g = omega (arith, leb-true u 9 t) in
+    ap (λ (n : ℕ). eqb n 0) z ∙ sym (and-true (eqb g 0)) ∙ ap (λ (y : Bool). eqb g 0 && y) (sym t))
+    (λ t.
+    ne_eqb (g + (u + 6) / 16) 0 (λ z. omega (arith, leb-false u 9 t, z))
+    ∙ sym (and-false (eqb g 0)) ∙ ap (λ (y : Bool). eqb g 0 && y) (sym t))
+
 module _ (b : List ℕ) (k j x : ℕ) (s : x < 256) (e : x ≡ get_or b (k + j) 0) where
   high_is : x / 16 ≡ at (bits b) (k * 8 + 2 * j * 4) 4
   high_is = let p : (k + j) * 8 ≡ k * 8 + 2 * j * 4 = omega arith in high_half b (k + j) x s e ∙ ap (λ (q : ℕ). at (bits b) q 4) p
@@ -75,6 +87,20 @@ module _ (b : List ℕ) (k j x : ℕ) (s : x < 256) (e : x ≡ get_or b (k + j) 
     where
       above : (y : ℕ) → leb y 9 ≡ (leb 0 y && leb y 9)
       above y = sym (and_yes (leb y 9) (le-leb 0 y (omega arith)))
+
+  pub pair_counted : (g : ℕ) → eqb g 0 ≡ inside 0 9 (run (bits b) (k * 8) (2 * j) 4) → eqb (g + ((x / 16 + 6) / 16 + (x % 16 + 6) / 16)) 0 ≡ inside 0 9 (run (bits b) (k * 8) (2 * (j + 1)) 4)
+  pair_counted g f =
+      let z : g + ((x / 16 + 6) / 16 + (x % 16 + 6) / 16) ≡ g + (x / 16 + 6) / 16 + (x % 16 + 6) / 16 = omega arith in
+      ap (λ (n : ℕ). eqb n 0) z
+      ∙ half_counted (g + (x / 16 + 6) / 16) (x % 16) (omega arith)
+      ∙ ap (λ (y : Bool). y && leb (x % 16) 9) (half_counted g (x / 16) (omega (arith, s)))
+      ∙ and_assoc (eqb g 0) (leb (x / 16) 9) (leb (x % 16) 9)
+      ∙ pair_judged (eqb g 0) (leb (x / 16) 9 && leb (x % 16) 9) f refl
+
+-- ---- a flag that a test puts down, or leaves
+pub flagged : {A B : Type 0} (h g t : Bool) → (A → t ≡ false) → (B → t ≡ true) → (A × (h ≡ false)) ⊎ (B × (h ≡ g)) → h ≡ (g && t)
+flagged h true t f e w = ⊎_elim (λ u. u.1 ∙ sym (f u.0)) (λ u. u.1 ∙ sym (e u.0)) w
+flagged h false t f e w = ⊎_elim (λ u. u.1) (λ u. u.1) w
 
 -- ---- a row more
 pub strips_turn : (l o u v : List ℕ) (i w j to : ℕ) (f : ℕ → List ℕ) → o ≡ strips l i w j f → to ≡ i + j * w → u ≡ sets o to v → v ≡ f j → u ≡ strips l i w (j + 1) f

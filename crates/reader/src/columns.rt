@@ -25,16 +25,17 @@ fn take_pairs(b: &[u8], k: usize, m: usize, out: &mut [u8], to: usize) -> bool
     requires { (k + m ≤ length b.now) × (to + 2 * m ≤ length out.old) × (k + m ≤ 60000) }
     ensures { (out.new ≡ sets out.old to (run (bits b.now) (k * 8) (2 * m) 4)) × (result ≡ inside 0 9 (run (bits b.now) (k * 8) (2 * m) 4)) }
 {
-    let mut good = true;
+    let mut wrong: u32 = 0;
     for j in 0..m {
-        let high = b[k + j] / 16;
-        let low = b[k + j] % 16;
-        out[to + 2 * j] = high;
-        out[to + 2 * j + 1] = low;
-        good &= high <= 9;
-        good &= low <= 9;
+        let x = b[k + j] as u32;
+        let high = x / 16;
+        let low = x % 16;
+        out[to + 2 * j] = high as u8;
+        out[to + 2 * j + 1] = low as u8;
+        // Six more than a digit stays below sixteen. Counted, since a test of each takes longer.
+        wrong += (high + 6) / 16 + (low + 6) / 16;
     }
-    good
+    wrong == 0
 }
 
 // c half bytes that end with byte e: where they are odd one by itself, then two a byte.
@@ -60,7 +61,11 @@ fn digits_column(c: usize, b: &[u8], e: usize, s: Spacing, out: &mut [u8], i: us
 {
     let mut good = true;
     for j in 0..s.rows {
-        good &= take_digits(b, e + j * s.bytes, c, out, i + j * s.places);
+        // Not `&=`, with which each row is made ready for more bytes than it has.
+        let here = take_digits(b, e + j * s.bytes, c, out, i + j * s.places);
+        if !here {
+            good = false;
+        }
     }
     good
 }
